@@ -1,0 +1,23 @@
+-- `check_holds` meets its contract: of 512 bytes the plain sum, folded, is the ones' complement sum. Assumes nothing.
+use mathlib.Core.Path.{sym, ap, _∙_}
+use Prim.Native.Nat.{ℕ}
+use native.Mathlib.Omega.{arith}
+use lib.Dec.{eqb}
+use borrow.Author.Needs.{needs}
+use Rattle.octets.specs.Ones.{folded}
+use Rattle.octets.proofs.Folding.{check-other, check-block}
+use Rattle.octets.proofs.ones.check_holds.Statement.{statement}
+use Rattle.octets.proofs.ones.check_holds.Tie as tie
+
+returns : tie.Need-returns
+returns c = sym (check-other (c .before .before .args .b .now) (c .if1 .taken))
+
+returns-2 : tie.Need-returns-2
+returns-2 c =
+    let known = c .before .before .before in
+    ap (λ (x : ℕ). eqb x 65535) (c .fold .ensures ∙ ap folded (c .before .total .ensures))
+    ∙ sym (check-block (known .before .args .b .now) (λ i. known .shared-slice-known .given i .fits) (omega arith))
+
+pub check-holds-spec : {M : Type 1} → statement M
+check-holds-spec =
+    tie.close (tie.spec returns (λ c κs. search needs) (λ c κs. search needs) returns-2)
