@@ -1,0 +1,62 @@
+-- Laws of the counts and of the largest value: each case of a definition, and what the limits and the largest value amount to. Assumes nothing.
+use mathlib.Core.Path.{_≡_, sym, ap, _∙_}
+use mathlib.Core.Bool.{or-true}
+use mathlib.Core.Option.{none, some}
+use Prim.Native.Nat.{ℕ, _+_, _-_, _*_, _/_, _^_, _≤_, _<_}
+use native.Mathlib.Omega.{arith}
+use lib.Pow.{ones-split, ones-lt, high, pow-pos}
+use borrow.Author.Tests.{lt-ltb, le-ltb, eq-eqb, ne-eqb}
+use Rattle.answer.specs.declared.Group.{Group}
+use Rattle.answer.specs.Paper.{gives, refused}
+use Rattle.number.specs.Numbers.{maxBits, maxBytes, inBits, maxValue, byteVal}
+
+-- the limits as the constants have them; that in bytes is the largest number of 22 bits
+limit-in-bits : maxBits ≡ 33554424
+limit-in-bits = omega arith
+
+limit-in-bytes : maxBytes ≡ 2 ^ 22 - 1
+limit-in-bytes = omega arith
+
+-- ---- a byte count in bits
+
+pub in-bits : (n : ℕ) → n < 2 ^ 61 → inBits n ≡ some (8 * n)
+unfolding inBits
+in-bits n h = simp (lt-ltb (8 * n) (2 ^ 64) (omega arith))
+
+pub not-in-bits : (n : ℕ) → 2 ^ 61 ≤ n → inBits n ≡ none
+unfolding inBits
+not-in-bits n h = simp (le-ltb (8 * n) (2 ^ 64) (omega arith))
+
+-- ---- the largest value of a width
+
+pub no-max-zero : (w : ℕ) → w ≡ 0 → maxValue w ≡ none
+unfolding maxValue
+no-max-zero w h = simp (eq-eqb w 0 h)
+
+pub no-max-wide : (w : ℕ) → 64 < w → maxValue w ≡ none
+unfolding maxValue
+no-max-wide w h = simp (lt-ltb 64 w h, or-true)
+
+pub max-is : (w : ℕ) → (w ≡ 0 → ⊥) → w ≤ 64 → maxValue w ≡ some (2 ^ w - 1)
+unfolding maxValue
+max-is w n h = simp (ne-eqb w 0 n, le-ltb 64 w h)
+
+-- 64 set bits of which w are left
+pub ones-shifted : (w : ℕ) → w ≤ 64 → (2 ^ 64 - 1) / 2 ^ (64 - w) ≡ 2 ^ w - 1
+ones-shifted w h =
+    let all : w + (64 - w) ≡ 64 = omega arith in
+    ap (λ (n : ℕ). (2 ^ n - 1) / 2 ^ (64 - w)) (sym all) ∙ rw (ones-split w (64 - w)) (high (2 ^ w - 1) (64 - w) (ones-lt (64 - w)))
+
+-- a number is within the width exactly where it is at most the largest value
+pub within-max : (w v : ℕ) → (v < 2 ^ w → v ≤ 2 ^ w - 1) × (v ≤ 2 ^ w - 1 → v < 2 ^ w)
+within-max w v = (λ h. omega arith, λ h. omega (arith, pow-pos w))
+
+-- ---- a number as a byte
+
+pub byte-is : (n : ℕ) → n ≤ 255 → byteVal n ≡ gives n
+unfolding byteVal
+byte-is n h = simp (le-ltb 255 n h)
+
+pub no-byte : (n : ℕ) → 255 < n → byteVal n ≡ refused Group.Number 1 0
+unfolding byteVal
+no-byte n h = simp (lt-ltb 255 n h)
