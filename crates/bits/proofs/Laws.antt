@@ -1,6 +1,6 @@
 -- What a write to a run of bits does, start and width left open, for numbers and for bytes, which are the run of all their bits: it has one result;
 -- it reads back; nothing else changes; writing what was read changes nothing; the second of two writes counts; disjoint writes commute.
--- Each law speaks of `bit` and `value`, the bit order of RFC 791. Assumes nothing.
+-- Each law speaks of `bit` and `value`, the bit order of RFC 791. Last, the contracts of the two writes allow one answer. Assumes nothing.
 use mathlib.Core.Path.{_≡_, sym, ap, _∙_, subst}
 use mathlib.Core.List.{List}
 use mathlib.Core.Logic.{_⊎_, inl, inr}
@@ -12,7 +12,10 @@ use lib.Pow.{pow-pos, pow-add, shr-shr, high}
 use lib.Seq.{length-take-le, getD-take, getD-drop}
 use Rattle.octets.specs.Octets.{AreBytes, byte}
 use Rattle.bits.specs.Bits.{bit, value, spelled}
+use Rattle.bits.specs.declared.NumberWrite.{NumberWrite}
+use Rattle.bits.specs.declared.BytesWrite.{BytesWrite}
 use Rattle.bits.specs.Writes.{Wrote, newBit, put, putBytes}
+use Rattle.bits.specs.Runs.{afterNumber, NumberWritten, afterBytes, BytesWritten}
 use Rattle.bits.proofs.Num.{num-ext, num-inj, num-digits, num-at}
 use Rattle.octets.proofs.Laws.{bytes-take, bytes-drop}
 use Rattle.bits.proofs.Bits.{bit-lt, bit-moved, bits-ext, spelled-ext, value-lt, value-byte}
@@ -190,3 +193,17 @@ write-bytes-read b f n h within =
     ap (put b (8 * f) (8 * length (take n (drop f b)))) (part-spelled b f n within)
     ∙ ap (λ (m : ℕ). put b (8 * f) (8 * m) (value b (8 * f) (8 * n))) (part-count b f n within)
     ∙ write-read b (8 * f) (8 * n) h
+
+-- ---- the contracts of the two writes: one answer, and one buffer after it
+
+-- where the answer is given, and the buffer by the answer
+written-one : {A : Type 0} {a q r : A} {c d : List ℕ} (after : A → List ℕ) → q ≡ a → r ≡ a → c ≡ after q → d ≡ after r → (q ≡ r) × (c ≡ d)
+written-one after x y f g = let same = x ∙ sym y in (same, f ∙ ap after same ∙ sym g)
+
+pub number-written-one : {b c d : List ℕ} {s w v : ℕ} {q r : NumberWrite} → NumberWritten b c s w v q → NumberWritten b d s w v r → (q ≡ r) × (c ≡ d)
+number-written-one {b} {s = s} {w} {v} x y =
+    written-one (λ (q : NumberWrite). afterNumber q b (put b s w v)) (x .answer) (y .answer) (x .bytes) (y .bytes)
+
+pub bytes-written-one : {b c d : List ℕ} {f : ℕ} {l : List ℕ} {q r : BytesWrite} → BytesWritten b c f l q → BytesWritten b d f l r → (q ≡ r) × (c ≡ d)
+bytes-written-one {b} {f = f} {l} x y =
+    written-one (λ (q : BytesWrite). afterBytes q b (putBytes b f l)) (x .answer) (y .answer) (x .bytes) (y .bytes)

@@ -1,5 +1,6 @@
 // Runs the leaves on vectors worked out by hand or taken from the RFCs, on both sides of a line. Prints which parts were right and which were not.
 // (Runs of bits have a program of their own.)
+use answer::Group;
 use answer::Refusal;
 use answer::SheetFault;
 use bits::BitPos;
@@ -12,9 +13,17 @@ use number::Bytes;
 use number::InBits;
 use number::MaxValue;
 
+fn is_sheet(group: Group) -> bool {
+    match group {
+        Group::Sheet => true,
+        _ => false,
+    }
+}
+
 fn refusals() -> bool {
     let paper = Refusal::Sheet(SheetFault::SlotGivenTwice, 98).on_paper();
-    (paper.number == 6) & (paper.place == 98)
+    let group = paper.group;
+    is_sheet(group) & (paper.number == 6) & (paper.place == 98)
 }
 
 // A byte past the end is 0, also at the largest offset.
@@ -99,18 +108,19 @@ fn numbers() -> bool {
         & (byte(256) == 999)
 }
 
-// The number of the last bit of a run, and its start where it has no end.
+// The number of the last bit of a run; where it has no end 2^64 - 1, at which no run ends.
 fn end(start: u64, width: u64) -> u64 {
     match BitPos::new(Bits(start)).end_pos(Bits(width)) {
         EndPos::At(p) => p.to_global_pos().0,
-        EndPos::Refused(_) => start,
+        EndPos::Refused(_) => 18446744073709551615,
     }
 }
 
 fn ends() -> bool {
     (end(7, 57) == 63)
-        & (end(9, 0) == 9)
-        & (end(1, 18446744073709551615) == 1)
+        & (end(0, 0) == 18446744073709551615)
+        & (end(1, 0) == 18446744073709551615)
+        & (end(1, 18446744073709551615) == 18446744073709551615)
         & (end(0, 18446744073709551615) == 18446744073709551614)
 }
 

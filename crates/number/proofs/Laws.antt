@@ -1,5 +1,5 @@
 -- Laws of the counts and of the largest value: each case of a definition, and what the limits and the largest value amount to. Assumes nothing.
-use mathlib.Core.Path.{_≡_, sym, ap, _∙_}
+use mathlib.Core.Path.{_≡_, refl, sym, ap, _∙_}
 use mathlib.Core.Bool.{or-true}
 use mathlib.Core.Option.{none, some}
 use Prim.Native.Nat.{ℕ, _+_, _-_, _*_, _/_, _^_, _≤_, _<_}
@@ -8,7 +8,13 @@ use lib.Pow.{ones-split, ones-lt, high, pow-pos}
 use borrow.Author.Tests.{lt-ltb, le-ltb, eq-eqb, ne-eqb}
 use Rattle.answer.specs.declared.Group.{Group}
 use Rattle.answer.specs.Paper.{gives, refused}
-use Rattle.number.specs.Numbers.{maxBits, maxBytes, inBits, maxValue, byteVal}
+use Rattle.answer.proofs.OneToOne.{paperOf-one}
+use Rattle.number.specs.declared.Bits.{Bits}
+use Rattle.number.specs.declared.Bytes.{Bytes}
+use Rattle.number.specs.declared.InBits.{InBits}
+use Rattle.number.specs.declared.MaxValue.{MaxValue}
+use Rattle.number.specs.declared.ByteVal.{ByteVal}
+use Rattle.number.specs.Numbers.{maxBits, maxBytes, inBits, maxValue, byteVal, countOf, valueOf, byteOf}
 
 -- the limits as the constants have them; that in bytes is the largest number of 22 bits
 limit-in-bits : maxBits ≡ 33554424
@@ -60,3 +66,29 @@ byte-is n h = simp (le-ltb 255 n h)
 pub no-byte : (n : ℕ) → 255 < n → byteVal n ≡ refused Group.Number 1 0
 unfolding byteVal
 no-byte n h = simp (lt-ltb 255 n h)
+
+-- ---- one answer: what the program's answers say tells them apart
+
+pub bits-one : (a b : Bits) → a .0 ≡ b .0 → a ≡ b
+bits-one a b e = ap (λ (n : ℕ). record { 0 = n }) e
+
+pub bytes-one : (a b : Bytes) → a .0 ≡ b .0 → a ≡ b
+bytes-one a b e = ap (λ (n : ℕ). record { 0 = n }) e
+
+pub count-one : (a b : InBits) → countOf a ≡ countOf b → a ≡ b
+count-one (InBits.Count a) (InBits.Count b) e = ap InBits.Count (bits-one a b cc)
+count-one (InBits.Count a) InBits.None e = cc
+count-one InBits.None (InBits.Count b) e = cc
+count-one InBits.None InBits.None e = refl
+
+pub value-one : (a b : MaxValue) → valueOf a ≡ valueOf b → a ≡ b
+value-one (MaxValue.Is v) (MaxValue.Is u) e = cc
+value-one (MaxValue.Is v) MaxValue.None e = cc
+value-one MaxValue.None (MaxValue.Is u) e = cc
+value-one MaxValue.None MaxValue.None e = refl
+
+pub byte-one : (a b : ByteVal) → byteOf a ≡ byteOf b → a ≡ b
+byte-one (ByteVal.Byte x) (ByteVal.Byte y) e = cc
+byte-one (ByteVal.Byte x) (ByteVal.Refused s) e = cc
+byte-one (ByteVal.Refused r) (ByteVal.Byte y) e = cc
+byte-one (ByteVal.Refused r) (ByteVal.Refused s) e = ap ByteVal.Refused (paperOf-one r s e)
