@@ -77,7 +77,7 @@ be-join s at m n e p q =
 -- ---- a test over a range
 
 -- past the end nothing is tested
-take-min : (e : ℕ) (s : List ℕ) → take (min e (length s)) s ≡ take e s
+pub take-min : (e : ℕ) (s : List ℕ) → take (min e (length s)) s ≡ take e s
 take-min e s = go (decLe e (length s))
   where
     go : Dec (e ≤ length s) → take (min e (length s)) s ≡ take e s

@@ -3,6 +3,7 @@
 ghost use mathlib.Core.Path.{_≡_};
 ghost use Prim.Native.Nat.{_+_, _*_, _^_, min, _≤_, _<_};
 ghost use lib.ListN.{length, drop};
+ghost use lib.Seq.{slice};
 ghost use Rattle.octets.specs.Octets.{byte, be, allIn, between, isZero, isName, same};
 
 pub mod ones;
@@ -69,6 +70,13 @@ fn least(a: usize, b: usize) -> usize
     ensures { λ r. ⌜ r ≡ min a b ⌝ }
 {
     if a < b { a } else { b }
+}
+
+// What lies from a up to, not including, e, so far as there is any.
+pub fn part(s: &[u8], a: usize, e: usize) -> &[u8]
+    ensures { λ r. ⌜ now r ≡ slice a e (now (s .entry)) ⌝ }
+{
+    part_from(&s[..least(e, s.len())], a)
 }
 
 // Whether each byte from a up to, not including, e lies between two others. Past the end there is none.

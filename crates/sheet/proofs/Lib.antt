@@ -1,0 +1,5 @@
+pub mod Walk
+pub mod Blocks
+pub mod Step
+pub mod Table
+pub mod Accepted

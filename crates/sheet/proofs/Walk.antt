@@ -1,0 +1,66 @@
+-- Laws of the walks over indexes: where they begin, one index further, and where the first is found. Assumes nothing.
+use mathlib.Core.Path.{_≡_, refl, sym, ap, _∙_}
+use mathlib.Core.Bool.{Bool, true, false, cond, _&&_}
+use mathlib.Core.Logic.{_⊎_, inl, inr, ⊎-elim}
+use mathlib.Core.Option.{Option, none, some}
+use Prim.Native.Nat.{ℕ, zero, suc, _+_, _<_}
+use native.Mathlib.Nat.{eq-or-lt-of-le}
+use native.Mathlib.Numerals.{add-one}
+use native.Mathlib.Omega.{arith}
+use Rattle.sheet.specs.Walk.{each, orElse, firstWhere}
+
+-- ---- a test at each index
+
+module _ (test : ℕ → Bool) where
+  pub each-none : each test 0 ≡ true
+  unfolding each
+  each-none = refl
+
+  -- as a loop has it that keeps in `ok` whether all passed so far
+  pub each-more : (i : ℕ) {ok now : Bool} → ok ≡ each test i → now ≡ test i → (ok && now) ≡ each test (i + 1)
+  unfolding each
+  each-more i e h = rw (add-one i, e, h)
+
+  -- it passes exactly where the test holds at every index
+  pub each-holds : (n : ℕ) → each test n ≡ true → (i : ℕ) → i < n → test i ≡ true
+  unfolding each
+  each-holds zero e i h = absurd (omega arith)
+  each-holds (suc n) e i h = last (each test n) (test n) refl refl e (each-holds n)
+    where
+      last : (a b : Bool) → each test n ≡ a → test n ≡ b → (a && b) ≡ true → (each test n ≡ true → (j : ℕ) → j < n → test j ≡ true) → test i ≡ true
+      last true true p q r before = ⊎-elim (λ x. rw x q) (before p i) (eq-or-lt-of-le {n = i} {m = n} (omega arith))
+      last true false p q r before = cc
+      last false b p q r before = cc
+
+-- ---- the first index at which a test holds
+
+module _ (test : ℕ → Bool) where
+  pub where-none : firstWhere test 0 ≡ none
+  unfolding firstWhere
+  where-none = refl
+
+  pub where-more : (i : ℕ) → firstWhere test i ≡ none → test i ≡ false → firstWhere test (i + 1) ≡ none
+  unfolding firstWhere
+  where-more i e h = rw (add-one i, e, h)
+
+  -- found at i, whatever comes after it
+  pub where-at : (i n : ℕ) → i < n → firstWhere test i ≡ none → test i ≡ true → firstWhere test n ≡ some i
+  unfolding firstWhere
+  where-at i zero h e t = absurd (omega arith)
+  where-at i (suc n) h e t = last (eq-or-lt-of-le {n = i} {m = n} (omega arith)) (where-at i n)
+    where
+      last : (i ≡ n) ⊎ (i < n) → (i < n → firstWhere test i ≡ none → test i ≡ true → firstWhere test n ≡ some i) → firstWhere test (suc n) ≡ some i
+      last (inl q) before = rw (← q, e, t)
+      last (inr l) before = rw (before l e t)
+
+  -- none is found where the test holds nowhere
+  pub where-nowhere : (n : ℕ) → firstWhere test n ≡ none → (i : ℕ) → i < n → test i ≡ false
+  unfolding firstWhere
+  where-nowhere zero e i h = absurd (omega arith)
+  where-nowhere (suc n) e i h = last (firstWhere test n) (test n) refl refl e (where-nowhere n)
+    where
+      last : (found : Option ℕ) (b : Bool) → firstWhere test n ≡ found → test n ≡ b → orElse found (cond b (some n) none) ≡ none
+          → (firstWhere test n ≡ none → (j : ℕ) → j < n → test j ≡ false) → test i ≡ false
+      last (some k) b p q r before = cc
+      last none true p q r before = cc
+      last none false p q r before = ⊎-elim (λ x. rw x q) (before p i) (eq-or-lt-of-le {n = i} {m = n} (omega arith))

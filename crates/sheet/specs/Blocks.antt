@@ -1,0 +1,68 @@
+-- The blocks of a sheet: which bytes are block i, its kind and its name, how many blocks there are of each kind, and the block of a length slot.
+-- Assumes nothing.
+use mathlib.Core.Bool.{Bool, cond, _&&_}
+use mathlib.Core.List.{List, []}
+use mathlib.Core.Option.{Option, none, some}
+use Prim.Native.Nat.{ℕ, zero, suc, _+_, _*_, _/_}
+use lib.Dec.{ltb, eqb}
+use lib.ListN.{length}
+use lib.Seq.{slice}
+use Rattle.octets.specs.Octets.{byte}
+use Rattle.sheet.specs.declared.Counts.{Counts}
+use Rattle.sheet.specs.declared.SlotBlock.{SlotBlock}
+use Rattle.sheet.specs.Walk.{firstWhere}
+
+-- how many whole blocks of 512 bytes
+abbrev pub blockCount : List ℕ → ℕ
+blockCount s = length s / 512
+
+-- block i; past the last whole one there is nothing
+unfoldable pub blockAt : List ℕ → ℕ → List ℕ
+blockAt s i = cond (ltb i (blockCount s)) (slice (512 * i) (512 * i + 512) s) []
+
+-- ---- kinds: byte 0 is F, L or C
+
+abbrev pub kindOf : List ℕ → ℕ
+kindOf b = byte b 0
+
+abbrev pub isF : ℕ → Bool
+isF kind = eqb kind 70
+
+abbrev pub isL : ℕ → Bool
+isL kind = eqb kind 76
+
+abbrev pub isC : ℕ → Bool
+isC kind = eqb kind 67
+
+-- how many of the first n blocks are of a kind
+unfoldable pub count : (ℕ → Bool) → List ℕ → ℕ → ℕ
+count isKind s zero = 0
+count isKind s (suc n) = count isKind s n + cond (isKind (kindOf (blockAt s n))) 1 0
+
+-- the same for all three
+abbrev pub countsOf : List ℕ → ℕ → Counts
+countsOf s n = record { fields = count isF s n; lengths = count isL s n; conds = count isC s n }
+
+-- with one block more, of this kind
+abbrev pub counted : Counts → ℕ → Counts
+counted c kind =
+    record { fields = c .fields + cond (isF kind) 1 0; lengths = c .lengths + cond (isL kind) 1 0; conds = c .conds + cond (isC kind) 1 0 }
+
+-- ---- the name: byte 1 its length, then its bytes
+
+unfoldable pub nameOf : List ℕ → List ℕ
+nameOf b = slice 2 (2 + byte b 1) b
+
+-- ---- slots: byte 66 of an L block
+
+abbrev pub isSlot : ℕ → List ℕ → Bool
+isSlot slot b = isL (kindOf b) && eqb (byte b 66) slot
+
+-- the first of the first n blocks that gives a slot
+abbrev pub slotBlock : List ℕ → ℕ → ℕ → Option ℕ
+slotBlock s slot n = firstWhere (λ i. isSlot slot (blockAt s i)) n
+
+-- what the program's answer says
+abbrev pub blockOf : SlotBlock → Option ℕ
+blockOf (SlotBlock.At i) = some i
+blockOf SlotBlock.None = none
