@@ -1,9 +1,9 @@
--- What passing step 1 shows of a sheet: `accepted-sheet`. The tests of each block are taken apart; an induction over the blocks gives their order.
--- Assumes nothing.
+-- Step 1 accepts exactly the sheets of `Accepted`: `accepted-is`. One way the tests of each block are taken apart, and an induction over the blocks gives
+-- their order; the other way the order gives the counts that the tests see. Assumes nothing.
 use mathlib.Core.Path.{_≡_, refl, sym, ap, _∙_}
 use mathlib.Core.Bool.{Bool, true, false, cond, not, _&&_, _||_}
 use mathlib.Core.List.{List}
-use mathlib.Core.Logic.{_⊎_, inl, inr, ⊎-elim}
+use mathlib.Core.Logic.{_⊎_, inl, inr, ⊎-elim, _↔_}
 use mathlib.Core.Option.{Option, none, some}
 use Prim.Native.Nat.{ℕ, zero, suc, _+_, _*_, _%_, _≤_, _<_}
 use native.Mathlib.Nat.{eq-or-lt-of-le}
@@ -11,18 +11,18 @@ use native.Mathlib.Decide.{decLt}
 use native.Mathlib.Omega.{arith}
 use lib.Dec.{eqb, leb, ltb, lit≤}
 use lib.ListN.{length}
-use borrow.Author.Tests.{not-false, eqb-true, eqb-false, eq-eqb, ltb-false, leb-false, leb-true}
+use borrow.Author.Tests.{not-false, eqb-true, eq-eqb, le-ltb, ltb-false, lt-leb, leb-false, leb-true}
 use Rattle.answer.specs.declared.Group.{Group}
 use Rattle.answer.specs.Paper.{accepted}
-use Rattle.answer.proofs.Laws.{both, not-refused, each-passed}
+use Rattle.answer.proofs.Laws.{both, not-refused, each-passed, all-passed}
 use Rattle.octets.specs.Octets.{byte, be}
 use Rattle.octets.specs.Ones.{checkHolds}
 use Rattle.sheet.specs.declared.Counts.{Counts}
-use Rattle.sheet.specs.Blocks.{blockCount, blockAt, kindOf, isF, isL, isC, count, countsOf, isSlot, slotBlock}
+use Rattle.sheet.specs.Blocks.{blockCount, blockAt, kindOf, isF, isL, isC, count, countsOf, isSlot}
 use Rattle.sheet.specs.Layout.{hasFirst, hasSecond, lName, lRest, lLayout, layoutHolds}
 use Rattle.sheet.specs.Sheet.{wrongLength, misplaced, tooMany, isSome, slotBefore, faultsOf, blockFault, sheetCheck}
-use Rattle.sheet.specs.Accepted.{fieldCount, lengthCount, condCount, Accepted}
-use Rattle.sheet.proofs.Walk.{where-nowhere}
+use Rattle.sheet.specs.Accepted.{fieldCount, lengthCount, Accepted}
+use Rattle.sheet.proofs.Walk.{where-nowhere, where-nothing}
 
 -- ---- the tests of one block
 
@@ -250,3 +250,74 @@ module _ (s : List ℕ) (ok : sheetCheck s ≡ accepted) where
         most-conds = in-order .few-c;
         one-each = apart;
       }
+
+-- ---- and back
+
+module _ (s : List ℕ) where
+  -- where no block is of a kind none is counted; a block of the kind is one more than those before it
+  count-nothing : (isKind : ℕ → Bool) (n : ℕ) → ((i : ℕ) → i < n → isKind (kindOf (blockAt s i)) ≡ false) → count isKind s n ≡ 0
+  unfolding count
+  count-nothing isKind zero h = refl
+  count-nothing isKind (suc n) h = rw (count-nothing isKind n (λ i l. h i (omega arith)), h n (omega arith))
+
+  count-past : (isKind : ℕ → Bool) (i n : ℕ) → i < n → isKind (kindOf (blockAt s i)) ≡ true → count isKind s i < count isKind s n
+  unfolding count
+  count-past isKind i zero h e = absurd (omega arith)
+  count-past isKind i (suc n) h e = last (eq-or-lt-of-le {n = i} {m = n} (omega arith)) (count-past isKind i n)
+    where
+      last : (i ≡ n) ⊎ (i < n) → (i < n → isKind (kindOf (blockAt s i)) ≡ true → count isKind s i < count isKind s n) → count isKind s i < count isKind s (suc n)
+      last (inl q) before = rw (← q, e) (omega arith)
+      last (inr l) before = omega (arith, before l e)
+
+both-no : (p q : Bool) → (p ≡ true → q ≡ true → ⊥) → (p && q) ≡ false
+both-no true true h = absurd (h refl refl)
+both-no true false h = refl
+both-no false q h = refl
+
+module _ (s : List ℕ) (a : Accepted s) where
+  -- what stands before an F block and before an L block
+  no-l-before : (i : ℕ) → i < fieldCount s → count isL s i ≡ 0
+  no-l-before i h = count-nothing s isL i (λ j l. ap isL (a .f-first j (omega arith)))
+
+  no-c-before : (i : ℕ) → i < fieldCount s + lengthCount s → count isC s i ≡ 0
+  no-c-before i h = count-nothing s isC i (λ j l. go j l (decLt j (fieldCount s)))
+    where
+      go : (j : ℕ) → j < i → Dec (j < fieldCount s) → isC (kindOf (blockAt s j)) ≡ false
+      go j l (yes f) = ap isC (a .f-first j f)
+      go j l (no f) = ap isC (a .l-next j (omega arith) (omega arith))
+
+  placed : (i : ℕ) → i < blockCount s → (misplaced (kindOf (blockAt s i)) (countsOf s i) ≡ false) × (tooMany (kindOf (blockAt s i)) (countsOf s i) ≡ false)
+  placed i h = go (decLt i (fieldCount s)) (decLt i (fieldCount s + lengthCount s))
+    where
+      go : Dec (i < fieldCount s) → Dec (i < fieldCount s + lengthCount s)
+          → (misplaced (kindOf (blockAt s i)) (countsOf s i) ≡ false) × (tooMany (kindOf (blockAt s i)) (countsOf s i) ≡ false)
+      go (yes f) d =
+          let kind = a .f-first i f in
+          let few = count-past s isF i (blockCount s) h (ap isF kind) in
+          (rw (kind, no-l-before i f, no-c-before i (omega arith)), rw (kind, lt-leb 64 (count isF s i) (omega (arith, few, a .most-fields))))
+      go (no f) (yes l) = let kind = a .l-next i (omega arith) l in (rw (kind, no-c-before i l), rw kind)
+      go (no f) (no l) =
+          let kind = a .c-last i (omega arith) h in
+          let few = count-past s isC i (blockCount s) h (ap isC kind) in
+          (rw kind, rw (kind, lt-leb 32 (count isC s i) (omega (arith, few, a .most-conds))))
+
+  slot-free : (i : ℕ) → i < blockCount s → slotBefore s i ≡ false
+  slot-free i h = go (eqb (kindOf (blockAt s i)) 76) refl
+    where
+      other : (j : ℕ) → j < i → kindOf (blockAt s i) ≡ 76 → isSlot (byte (blockAt s i) 66) (blockAt s j) ≡ false
+      other j l k = both-no (eqb (kindOf (blockAt s j)) 76) (eqb (byte (blockAt s j) 66) (byte (blockAt s i) 66)) (λ p q. a .one-each j i l h (eqb-true _ _ p) k (eqb-true _ _ q))
+
+      go : (isl : Bool) → eqb (kindOf (blockAt s i)) 76 ≡ isl → slotBefore s i ≡ false
+      go false e = rw e
+      go true e = rw (e, where-nothing (λ j. isSlot (byte (blockAt s i) 66) (blockAt s j)) i (λ j l. other j l (eqb-true _ _ e)))
+
+  block-passes : (i : ℕ) → i < blockCount s → blockFault s i ≡ accepted
+  unfolding faultsOf
+  block-passes i h = rw (a .checked i h, placed i h .0, placed i h .1, a .laid-out i h, slot-free i h)
+
+  sheet-accepted : sheetCheck s ≡ accepted
+  unfolding sheetCheck
+  sheet-accepted = rw (eq-eqb (length s % 512) 0 (omega (arith, a .whole)), le-ltb 99 (blockCount s) (a .most)) (all-passed (blockFault s) (blockCount s) block-passes)
+
+pub accepted-is : (s : List ℕ) → (sheetCheck s ≡ accepted) ↔ Accepted s
+accepted-is s = (accepted-sheet s, sheet-accepted s)

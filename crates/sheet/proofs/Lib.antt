@@ -1,5 +1,4 @@
 pub mod Walk
 pub mod Blocks
-pub mod Step
 pub mod Table
 pub mod Accepted

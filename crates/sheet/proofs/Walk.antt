@@ -1,5 +1,5 @@
 -- Laws of the walks over indexes: where they begin, one index further, and where the first is found. Assumes nothing.
-use mathlib.Core.Path.{_≡_, refl, sym, ap, _∙_}
+use mathlib.Core.Path.{_≡_, refl}
 use mathlib.Core.Bool.{Bool, true, false, cond, _&&_}
 use mathlib.Core.Logic.{_⊎_, inl, inr, ⊎-elim}
 use mathlib.Core.Option.{Option, none, some}
@@ -64,3 +64,8 @@ module _ (test : ℕ → Bool) where
       last (some k) b p q r before = cc
       last none true p q r before = cc
       last none false p q r before = ⊎-elim (λ x. rw x q) (before p i) (eq-or-lt-of-le {n = i} {m = n} (omega arith))
+
+  pub where-nothing : (n : ℕ) → ((i : ℕ) → i < n → test i ≡ false) → firstWhere test n ≡ none
+  unfolding firstWhere
+  where-nothing zero h = refl
+  where-nothing (suc n) h = rw (where-nothing n (λ i l. h i (omega arith)), h n (omega arith))

@@ -9,7 +9,6 @@ use Rattle.answer.proofs.Laws.{first-none, first-more, first-stops, passed, mis
 use Rattle.sheet.specs.Blocks.{kindOf, countsOf}
 use Rattle.sheet.specs.Sheet.{blockFault, sheetCheck}
 use Rattle.sheet.proofs.Blocks.{counts-none, counts-more, counts-le}
-use Rattle.sheet.proofs.Step.{faults-alike}
 use Rattle.sheet.proofs.check.Statement.{statement}
 use Rattle.sheet.proofs.check.Tie as tie
 
@@ -30,7 +29,7 @@ loop-holds c = (omega arith, sym (counts-none _), first-none _)
 fault : (c : tie.After-block-fault Inv-loop μ-loop) → paper (c .block-fault .result) ≡ blockFault (c .before .before .before .before .before .before .before .args .s .now) (c .before .before .before .before .loop .i)
 fault c =
     let k = c .before .before in
-    c .block-fault .ensures ∙ faults-alike _ (k .block .ensures) (k .before .before .loop .inv .1) (c .before .slot-before .ensures)
+    rw (c .block-fault .ensures, k .block .ensures, k .before .before .loop .inv .1, c .before .slot-before .ensures)
 
 returns-2 : tie.Need-returns-2 Inv-loop μ-loop
 unfolding sheetCheck

@@ -1,5 +1,5 @@
 -- `nodes_hold` meets its contract. The loop's invariant: the nodes so far hold exactly where `ok` says so. Assumes nothing.
-use mathlib.Core.Path.{_≡_, sym, _∙_}
+use mathlib.Core.Path.{_≡_, sym}
 use Prim.Native.Nat.{_-_, _≤_}
 use native.Mathlib.Omega.{arith}
 use borrow.Author.Needs.{needs}
