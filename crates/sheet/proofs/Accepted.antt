@@ -1,7 +1,7 @@
 -- Step 1 accepts exactly the sheets of `Accepted`: `accepted-is`. One way the tests of each block are taken apart, and an induction over the blocks gives
 -- their order; the other way the order gives the counts that the tests see. Assumes nothing.
 use mathlib.Core.Path.{_≡_, refl, sym, ap, _∙_}
-use mathlib.Core.Bool.{Bool, true, false, cond, not, _&&_, _||_}
+use mathlib.Core.Bool.{Bool, true, false, cond, not, _&&_, _||_, true≢false}
 use mathlib.Core.List.{List}
 use mathlib.Core.Logic.{_⊎_, inl, inr, ⊎-elim, _↔_}
 use mathlib.Core.Option.{Option, none, some}
@@ -18,8 +18,8 @@ use Rattle.answer.proofs.Laws.{both, not-refused, each-passed, all-passed}
 use Rattle.octets.specs.Octets.{byte, be}
 use Rattle.octets.specs.Ones.{checkHolds}
 use Rattle.sheet.specs.declared.Counts.{Counts}
-use Rattle.sheet.specs.Blocks.{blockCount, blockAt, kindOf, isF, isL, isC, count, countsOf, isSlot}
-use Rattle.sheet.specs.Layout.{hasFirst, hasSecond, lName, lRest, lLayout, layoutHolds}
+use Rattle.blocks.specs.Layout.{kindOf, isF, isL, isC, hasFirst, hasSecond, lName, lRest, lLayout, layoutHolds}
+use Rattle.sheet.specs.Blocks.{blockCount, blockAt, count, countsOf, isSlot}
 use Rattle.sheet.specs.Sheet.{wrongLength, misplaced, tooMany, isSome, slotBefore, faultsOf, blockFault, sheetCheck}
 use Rattle.sheet.specs.Accepted.{fieldCount, lengthCount, Accepted}
 use Rattle.sheet.proofs.Walk.{where-nowhere, where-nothing}
@@ -49,7 +49,7 @@ passed-all b before twice i e =
     }
 
 clash : {X : Type 0} → true ≡ false → X
-clash e = absurd (let z : _≡_ {A = ℕ} 0 1 = cc in omega arith)
+clash e = absurd (true≢false e)
 
 -- a kind in its place, and not too many of it: F with no L or C before, L with no C before, or C
 data InPlace (kind : ℕ) (before : Counts) : Type 0 where

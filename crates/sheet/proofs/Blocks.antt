@@ -8,7 +8,8 @@ use native.Mathlib.Omega.{arith}
 use lib.Dec.{lit≤}
 use Rattle.sheet.specs.declared.Counts.{Counts}
 use Rattle.sheet.specs.declared.SlotBlock.{SlotBlock}
-use Rattle.sheet.specs.Blocks.{blockAt, kindOf, isF, isL, isC, count, countsOf, counted, blockOf}
+use Rattle.blocks.specs.Layout.{kindOf, isF, isL, isC}
+use Rattle.sheet.specs.Blocks.{blockAt, count, countsOf, counted, blockOf}
 
 -- one more or none
 one-le : (test : Bool) → cond test 1 0 ≤ 1

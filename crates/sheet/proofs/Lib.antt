@@ -1,4 +1,3 @@
 pub mod Walk
 pub mod Blocks
-pub mod Table
 pub mod Accepted

@@ -1,38 +1,13 @@
--- Laws of the walks over indexes: where they begin, one index further, and where the first is found. Assumes nothing.
+-- Laws of the first index at which a test holds: where the walk begins, one index further, where it is found, and where it is not. Assumes nothing.
 use mathlib.Core.Path.{_≡_, refl}
-use mathlib.Core.Bool.{Bool, true, false, cond, _&&_}
+use mathlib.Core.Bool.{Bool, true, false, cond}
 use mathlib.Core.Logic.{_⊎_, inl, inr, ⊎-elim}
 use mathlib.Core.Option.{Option, none, some}
 use Prim.Native.Nat.{ℕ, zero, suc, _+_, _<_}
 use native.Mathlib.Nat.{eq-or-lt-of-le}
 use native.Mathlib.Numerals.{add-one}
 use native.Mathlib.Omega.{arith}
-use Rattle.sheet.specs.Walk.{each, orElse, firstWhere}
-
--- ---- a test at each index
-
-module _ (test : ℕ → Bool) where
-  pub each-none : each test 0 ≡ true
-  unfolding each
-  each-none = refl
-
-  -- as a loop has it that keeps in `ok` whether all passed so far
-  pub each-more : (i : ℕ) {ok now : Bool} → ok ≡ each test i → now ≡ test i → (ok && now) ≡ each test (i + 1)
-  unfolding each
-  each-more i e h = rw (add-one i, e, h)
-
-  -- it passes exactly where the test holds at every index
-  pub each-holds : (n : ℕ) → each test n ≡ true → (i : ℕ) → i < n → test i ≡ true
-  unfolding each
-  each-holds zero e i h = absurd (omega arith)
-  each-holds (suc n) e i h = last (each test n) (test n) refl refl e (each-holds n)
-    where
-      last : (a b : Bool) → each test n ≡ a → test n ≡ b → (a && b) ≡ true → (each test n ≡ true → (j : ℕ) → j < n → test j ≡ true) → test i ≡ true
-      last true true p q r before = ⊎-elim (λ x. rw x q) (before p i) (eq-or-lt-of-le {n = i} {m = n} (omega arith))
-      last true false p q r before = cc
-      last false b p q r before = cc
-
--- ---- the first index at which a test holds
+use Rattle.sheet.specs.Walk.{orElse, firstWhere}
 
 module _ (test : ℕ → Bool) where
   pub where-none : firstWhere test 0 ≡ none

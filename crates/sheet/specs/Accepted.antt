@@ -6,8 +6,8 @@ use Prim.Native.Nat.{ℕ, _+_, _*_, _≤_, _<_}
 use lib.ListN.{length}
 use Rattle.octets.specs.Octets.{byte}
 use Rattle.octets.specs.Ones.{checkHolds}
-use Rattle.sheet.specs.Blocks.{blockCount, blockAt, kindOf, isF, isL, isC, count}
-use Rattle.sheet.specs.Layout.{layoutHolds}
+use Rattle.blocks.specs.Layout.{kindOf, isF, isL, isC, layoutHolds}
+use Rattle.sheet.specs.Blocks.{blockCount, blockAt, count}
 
 -- how many F, L and C blocks
 abbrev pub fieldCount : List ℕ → ℕ

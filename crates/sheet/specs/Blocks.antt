@@ -1,5 +1,4 @@
--- The blocks of a sheet: which bytes are block i, its kind and its name, how many blocks there are of each kind, and the block of a length slot.
--- Assumes nothing.
+-- The blocks of a sheet: which bytes are block i, how many blocks there are of each kind, and the block of a length slot. Assumes nothing.
 use mathlib.Core.Bool.{Bool, cond, _&&_}
 use mathlib.Core.List.{List, []}
 use mathlib.Core.Option.{Option, none, some}
@@ -8,6 +7,7 @@ use lib.Dec.{ltb, eqb}
 use lib.ListN.{length}
 use lib.Seq.{slice}
 use Rattle.octets.specs.Octets.{byte}
+use Rattle.blocks.specs.Layout.{kindOf, isF, isL, isC}
 use Rattle.sheet.specs.declared.Counts.{Counts}
 use Rattle.sheet.specs.declared.SlotBlock.{SlotBlock}
 use Rattle.sheet.specs.Walk.{firstWhere}
@@ -20,19 +20,7 @@ blockCount s = length s / 512
 unfoldable pub blockAt : List ℕ → ℕ → List ℕ
 blockAt s i = cond (ltb i (blockCount s)) (slice (512 * i) (512 * i + 512) s) []
 
--- ---- kinds: byte 0 is F, L or C
-
-abbrev pub kindOf : List ℕ → ℕ
-kindOf b = byte b 0
-
-abbrev pub isF : ℕ → Bool
-isF kind = eqb kind 70
-
-abbrev pub isL : ℕ → Bool
-isL kind = eqb kind 76
-
-abbrev pub isC : ℕ → Bool
-isC kind = eqb kind 67
+-- ---- kinds
 
 -- how many of the first n blocks are of a kind
 unfoldable pub count : (ℕ → Bool) → List ℕ → ℕ → ℕ
@@ -47,11 +35,6 @@ countsOf s n = record { fields = count isF s n; lengths = count isL s n; conds =
 abbrev pub counted : Counts → ℕ → Counts
 counted c kind =
     record { fields = c .fields + cond (isF kind) 1 0; lengths = c .lengths + cond (isL kind) 1 0; conds = c .conds + cond (isC kind) 1 0 }
-
--- ---- the name: byte 1 its length, then its bytes
-
-unfoldable pub nameOf : List ℕ → List ℕ
-nameOf b = slice 2 (2 + byte b 1) b
 
 -- ---- slots: byte 66 of an L block
 

@@ -1,6 +1,4 @@
 pub mod Walk
 pub mod Blocks
-pub mod Layout
 pub mod Sheet
-pub mod Nodes
 pub mod Accepted

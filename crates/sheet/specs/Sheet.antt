@@ -1,5 +1,5 @@
 -- Step 1: what is said of any bytes as a sheet. Assumes nothing.
-use mathlib.Core.Bool.{Bool, not, _&&_, _||_}
+use mathlib.Core.Bool.{Bool, true, false, not, _&&_, _||_}
 use mathlib.Core.List.{List}
 use mathlib.Core.Option.{Option, none, some}
 use Prim.Native.Nat.{ℕ, _%_}
@@ -9,9 +9,9 @@ use Rattle.answer.specs.declared.Group.{Group}
 use Rattle.answer.specs.Paper.{Check, refuse, _andThen_, first}
 use Rattle.octets.specs.Octets.{byte}
 use Rattle.octets.specs.Ones.{checkHolds}
+use Rattle.blocks.specs.Layout.{kindOf, isF, isL, isC, layoutHolds}
 use Rattle.sheet.specs.declared.Counts.{Counts}
-use Rattle.sheet.specs.Blocks.{blockCount, blockAt, kindOf, isF, isL, isC, countsOf, slotBlock}
-use Rattle.sheet.specs.Layout.{layoutHolds}
+use Rattle.sheet.specs.Blocks.{blockCount, blockAt, countsOf, slotBlock}
 
 -- sheet 1: no multiple of 512 bytes, or over 99 blocks
 abbrev pub wrongLength : List ℕ → Bool
@@ -29,8 +29,8 @@ abbrev pub tooMany : ℕ → Counts → Bool
 tooMany kind before = (isF kind && leb 64 (before .fields)) || (isC kind && leb 32 (before .conds))
 
 abbrev pub isSome : Option ℕ → Bool
-isSome (some i) = Bool.true
-isSome none = Bool.false
+isSome (some i) = true
+isSome none = false
 
 -- sheet 6: the slot of L block i given before
 abbrev pub slotBefore : List ℕ → ℕ → Bool

@@ -1,12 +1,7 @@
--- Walks over indexes: a test at each of them, and the first at which one holds. Assumes nothing.
-use mathlib.Core.Bool.{Bool, true, cond, _&&_}
+-- The first of some indexes at which a test holds. Assumes nothing.
+use mathlib.Core.Bool.{Bool, cond}
 use mathlib.Core.Option.{Option, none, some}
 use Prim.Native.Nat.{ℕ, zero, suc}
-
--- the test holds at each of 0, 1, .., n - 1
-unfoldable pub each : (ℕ → Bool) → ℕ → Bool
-each test zero = true
-each test (suc n) = each test n && test n
 
 -- the one found first, or else the other
 abbrev pub orElse : Option ℕ → Option ℕ → Option ℕ

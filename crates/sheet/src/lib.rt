@@ -1,8 +1,8 @@
 // Sheets: 0 to 99 blocks of 512 bytes, F for fields, L for lengths, C for conditions. What a sheet holds, and step 1: which bytes are a sheet.
-// `layout` has what each byte of a block may be, `nodes` the table of a tree.
 use answer::Refusal;
 use answer::SheetFault;
 use answer::Verdict;
+use blocks::layout_holds;
 use octets::byte_at;
 use octets::ones::check_holds;
 use octets::part;
@@ -11,11 +11,8 @@ ghost use mathlib.Core.Bool.{cond};
 ghost use Prim.Native.Nat.{_≤_, _<_, _^_};
 ghost use Rattle.answer.specs.declared.Group.{Group};
 ghost use Rattle.answer.specs.Paper.{sheetNumber, paper, refuse as refusedIf};
-ghost use Rattle.sheet.specs.Blocks.{blockCount, blockAt, countsOf, counted, nameOf, isSlot, slotBlock, blockOf};
+ghost use Rattle.sheet.specs.Blocks.{blockCount, blockAt, countsOf, counted, isSlot, slotBlock, blockOf};
 ghost use Rattle.sheet.specs.Sheet.{misplaced as isMisplaced, tooMany, slotBefore, faultsOf, sheetCheck};
-
-pub mod layout;
-pub mod nodes;
 
 // How many blocks there are of each kind.
 pub struct Counts {
@@ -39,14 +36,6 @@ pub fn block(s: &[u8], i: usize) -> &[u8]
     } else {
         part(s, 0, 0)
     }
-}
-
-// The name of a block.
-pub fn name(b: &[u8]) -> &[u8]
-    ensures { λ r. ⌜ now r ≡ nameOf (now (b .entry)) ⌝ }
-{
-    let n = byte_at(b, 1) as usize;
-    part(b, 2, 2 + n)
 }
 
 fn one(test: bool) -> usize
@@ -165,7 +154,7 @@ fn block_fault(b: &[u8], before: Counts, twice: bool, i: usize) -> Verdict
         i,
     );
     let count = refuse(too_many(kind, before), SheetFault::TooManyOfAKind, i);
-    let bytes = refuse(!layout::layout_holds(b), SheetFault::ByteOutsideLayout, i);
+    let bytes = refuse(!layout_holds(b), SheetFault::ByteOutsideLayout, i);
     let slot = refuse(twice, SheetFault::SlotGivenTwice, i);
     check.and_then(order.and_then(count.and_then(bytes.and_then(slot))))
 }

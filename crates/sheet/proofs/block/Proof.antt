@@ -7,11 +7,11 @@ use Rattle.sheet.proofs.block.Tie as tie
 
 returns : tie.Need-returns
 unfolding blockAt
-returns c = rw (lt-ltb _ _ (c .before .if1 .taken)) (c .part .ensures)
+returns c = rw (lt-ltb _ _ (c .before .if1 .taken), c .part .ensures)
 
 returns-2 : tie.Need-returns-2
 unfolding blockAt
-returns-2 c = rw (le-ltb _ _ (c .before .if1 .left)) (c .part2 .ensures)
+returns-2 c = rw (le-ltb _ _ (c .before .if1 .left), c .part2 .ensures)
 
 pub block-spec : {M : Type 1} → statement M
 block-spec =

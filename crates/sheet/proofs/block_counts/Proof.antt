@@ -3,7 +3,8 @@ use mathlib.Core.Path.{_≡_, sym, ap, _∙_}
 use Prim.Native.Nat.{_-_, _≤_}
 use native.Mathlib.Omega.{arith}
 use borrow.Author.Needs.{needs}
-use Rattle.sheet.specs.Blocks.{blockCount, kindOf, countsOf}
+use Rattle.blocks.specs.Layout.{kindOf}
+use Rattle.sheet.specs.Blocks.{blockCount, countsOf}
 use Rattle.sheet.proofs.Blocks.{counts-none, counts-more, counts-le}
 use Rattle.sheet.proofs.block_counts.Statement.{statement}
 use Rattle.sheet.proofs.block_counts.Tie as tie

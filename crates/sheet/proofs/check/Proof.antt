@@ -6,7 +6,8 @@ use borrow.Author.Needs.{needs}
 use Rattle.answer.specs.declared.Group.{Group}
 use Rattle.answer.specs.Paper.{accepted, paper, first}
 use Rattle.answer.proofs.Laws.{first-none, first-more, first-stops, passed, miss}
-use Rattle.sheet.specs.Blocks.{kindOf, countsOf}
+use Rattle.blocks.specs.Layout.{kindOf}
+use Rattle.sheet.specs.Blocks.{countsOf}
 use Rattle.sheet.specs.Sheet.{blockFault, sheetCheck}
 use Rattle.sheet.proofs.Blocks.{counts-none, counts-more, counts-le}
 use Rattle.sheet.proofs.check.Statement.{statement}

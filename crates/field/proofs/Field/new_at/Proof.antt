@@ -1,0 +1,37 @@
+-- `Field::new_at` meets its contract: a refusal of the items stands; past them each item of the field is what its call ensures. Assumes nothing.
+use mathlib.Core.Path.{sym, ap, _∙_}
+use borrow.Author.Needs.{needs}
+use Rattle.answer.specs.Paper.{paper}
+use Rattle.answer.proofs.Laws.{go, stand, passed}
+use Rattle.field.proofs.Field.new_at.Statement.{statement}
+use Rattle.field.proofs.Field.new_at.Tie as tie
+
+returns : tie.Need-returns
+returns c = sym (stand _ (sym (c .before .before .before .check-items .ensures) ∙ ap paper (c .before .v .given .1)))
+
+returns-2 : tie.Need-returns-2
+returns-2 c =
+    go
+    (passed (c .before .before .before .before .before .enum-told .given .1) (c .before .before .before .before .before .before .before .check-items .ensures))
+    (rw (
+      c .is-fixed .ensures,
+      c .before .is-generated .ensures,
+      c .before .before .default-or-zero .ensures,
+      c .before .before .before .arg-or-repr .ensures,
+      c .before .before .before .before .repr-or-inferred .ensures,
+    ))
+
+pub new-at-spec : {M : Type 1} → statement M
+new-at-spec =
+    tie.close
+    (tie.spec
+    (λ c κs. search needs)
+    (λ c. search needs)
+    returns
+    (λ c. search needs)
+    (λ c κs. search needs)
+    (λ c κs. search needs)
+    (λ c κs. search needs)
+    (λ c κs. search needs)
+    (λ c κs. search needs)
+    returns-2)

@@ -1,0 +1,41 @@
+-- `check_items` meets its contract: what the calls ensure, put in for their results from the last one back. Assumes nothing.
+use borrow.Author.Needs.{needs}
+use Rattle.field.specs.Fields.{fieldCheck}
+use Rattle.field.proofs.check_items.Statement.{statement}
+use Rattle.field.proofs.check_items.Tie as tie
+
+returns : tie.Need-returns
+unfolding fieldCheck
+returns c =
+    rw (
+      c .and-then3 .ensures,
+      c .before .and-then2 .ensures,
+      c .before .before .and-then .ensures,
+      c .before .before .before .check-default .ensures,
+      c .before .before .before .before .refuse3 .ensures,
+      c .before .before .before .before .before .bad-arg .ensures,
+      c .before .before .before .before .before .before .refuse2 .ensures,
+      c .before .before .before .before .before .before .before .bad-repr .ensures,
+      c .before .before .before .before .before .before .before .before .refuse .ensures,
+      c .before .before .before .before .before .before .before .before .before .bad-width .ensures,
+      c .before .before .before .before .before .before .before .before .before .before .arg-or-repr .ensures,
+      c .before .before .before .before .before .before .before .before .before .before .before .repr-or-inferred .ensures,
+    )
+
+pub check-items-spec : {M : Type 1} → statement M
+check-items-spec =
+    tie.close
+    (tie.spec
+    (λ c κs. search needs)
+    (λ c κs. search needs)
+    (λ c κs. search needs)
+    (λ c κs. search needs)
+    (λ c κs. search needs)
+    (λ c κs. search needs)
+    (λ c κs. search needs)
+    (λ c κs. search needs)
+    (λ c κs. search needs)
+    (λ c κs. search needs)
+    (λ c κs. search needs)
+    (λ c κs. search needs)
+    returns)

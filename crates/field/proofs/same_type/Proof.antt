@@ -1,0 +1,10 @@
+-- `same_type` meets its contract: the codes that the calls ensure, compared. Assumes nothing.
+use borrow.Author.Needs.{needs}
+use Rattle.field.proofs.same_type.Statement.{statement}
+use Rattle.field.proofs.same_type.Tie as tie
+
+returns : tie.Need-returns
+returns c = rw (c .code2 .ensures, c .before .code .ensures)
+
+pub same-type-spec : {M : Type 1} → statement M
+same-type-spec = tie.close (tie.spec (λ c κs. search needs) (λ c κs. search needs) returns)

@@ -1,0 +1,4 @@
+pub mod Fields
+pub mod OnBlock
+pub mod Step
+pub mod Sound

@@ -1,0 +1,494 @@
+// Fields: what a table says of one field, checked as the Rust's `Field::new` checks it, and the record of a field that passed.
+// A default's bytes stay where they are, in the block of the field: the record holds their span.
+use answer::FieldFault;
+use answer::Refusal;
+use answer::Verdict;
+use number::Bits;
+use number::Bytes;
+use number::MaxValue;
+use octets::be16;
+use octets::be32;
+use octets::be64;
+use octets::byte_at;
+use types::Arg;
+use types::BuiltinTypes;
+ghost use mathlib.Core.Path.{_≡_};
+ghost use Rattle.answer.specs.declared.Group.{Group};
+ghost use Rattle.answer.specs.Paper.{fieldNumber, paper, refuse as refusedIf};
+ghost use Rattle.number.specs.Numbers.{valueOf};
+ghost use Rattle.types.specs.Types.{typeOf, sameType, isSlice, isBoolType};
+ghost use Rattle.field.specs.Fields.{inferRepr, reprOf, argOf, inferDefault, defaultOf, fixedOf, genOf, badWidth, badRepr, badArg, isBool, badBool, badBytes, over, badNumber, fixedBytes, valueCheck, defaultCheck, fieldCheck, newField, fieldAnswer, reprBytes, writeGuard};
+ghost use Rattle.field.specs.OnBlock.{bitsIn, reprIn, argIn, genIn, valueIn, defaultIn, blockCheck, fieldIn};
+ghost use Rattle.field.specs.Step.{fieldsCheck};
+
+// A stretch of bytes in the block of a field.
+pub struct Span {
+    pub at: usize,
+    pub len: usize,
+}
+
+// A default: a number, or bytes, those of the span and then zeros. (A bool can be given, but no field is accepted with one.)
+pub enum DefaultVal {
+    Num(u64),
+    Bool(bool),
+    Bytes(Span),
+}
+
+// The items of a field that may be absent.
+pub enum DefinedRepr {
+    Absent,
+    Given(BuiltinTypes),
+}
+
+pub enum DefinedArg {
+    Absent,
+    Given(Arg),
+}
+
+// A default, and whether it is fixed.
+pub enum DefinedDefault {
+    Absent,
+    Given(DefaultVal, bool),
+}
+
+pub enum DefinedGen {
+    Absent,
+    Given(bool),
+}
+
+// A field with every item resolved.
+pub struct Field {
+    pub bit: Bits,
+    // how it is held
+    pub repr: BuiltinTypes,
+    // how it is handed over
+    pub arg: Arg,
+    pub default: DefaultVal,
+    // whether its own reading and writing is made public (`gen` in the Rust)
+    pub generate: bool,
+    pub fixed: bool,
+}
+
+pub enum NewField {
+    Is(Field),
+    Refused(Refusal),
+}
+
+// ---- what an absent item stands for
+
+fn infer_repr(bit: Bits) -> BuiltinTypes
+    ensures { λ r. ⌜ r ≡ inferRepr (bit .0) ⌝ }
+{
+    if bit.0 <= 8 {
+        return BuiltinTypes::U8;
+    }
+    if bit.0 <= 16 {
+        return BuiltinTypes::U16;
+    }
+    if bit.0 <= 32 {
+        return BuiltinTypes::U32;
+    }
+    if bit.0 <= 64 {
+        return BuiltinTypes::U64;
+    }
+    BuiltinTypes::ByteSlice
+}
+
+fn repr_or_inferred(bit: Bits, repr: DefinedRepr) -> BuiltinTypes
+    ensures { λ r. ⌜ r ≡ reprOf (bit .0) repr ⌝ }
+{
+    match repr {
+        DefinedRepr::Absent => infer_repr(bit),
+        DefinedRepr::Given(t) => t,
+    }
+}
+
+fn arg_or_repr(repr: BuiltinTypes, arg: DefinedArg) -> Arg
+    ensures { λ r. ⌜ r ≡ argOf repr arg ⌝ }
+{
+    match arg {
+        DefinedArg::Absent => Arg::BuiltinTypes(repr),
+        DefinedArg::Given(a) => a,
+    }
+}
+
+// Of bytes none are stated, so that all are zero.
+fn infer_default_val(repr: BuiltinTypes) -> DefaultVal
+    ensures { λ r. ⌜ r ≡ inferDefault repr ⌝ }
+{
+    if is_slice(repr) {
+        return DefaultVal::Bytes(Span { at: 0, len: 0 });
+    }
+    DefaultVal::Num(0)
+}
+
+fn default_or_zero(repr: BuiltinTypes, default: DefinedDefault) -> DefaultVal
+    ensures { λ r. ⌜ r ≡ defaultOf repr default ⌝ }
+{
+    match default {
+        DefinedDefault::Absent => infer_default_val(repr),
+        DefinedDefault::Given(d, _) => d,
+    }
+}
+
+fn is_fixed(default: DefinedDefault) -> bool
+    ensures { λ r. ⌜ r ≡ fixedOf default ⌝ }
+{
+    match default {
+        DefinedDefault::Absent => false,
+        DefinedDefault::Given(_, fixed) => fixed,
+    }
+}
+
+fn is_generated(generate: DefinedGen) -> bool
+    ensures { λ r. ⌜ r ≡ genOf generate ⌝ }
+{
+    match generate {
+        DefinedGen::Absent => true,
+        DefinedGen::Given(g) => g,
+    }
+}
+
+// ---- field 1 to 7, a test each
+
+fn same_type(t: BuiltinTypes, u: BuiltinTypes) -> bool
+    ensures { λ r. ⌜ r ≡ sameType t u ⌝ }
+{
+    t.code() == u.code()
+}
+
+fn is_slice(t: BuiltinTypes) -> bool
+    ensures { λ r. ⌜ r ≡ isSlice t ⌝ }
+{
+    same_type(t, BuiltinTypes::ByteSlice)
+}
+
+fn is_bool_type(t: BuiltinTypes) -> bool
+    ensures { λ r. ⌜ r ≡ isBoolType t ⌝ }
+{
+    same_type(t, BuiltinTypes::Bool)
+}
+
+fn bad_width(bit: Bits) -> bool
+    ensures { λ r. ⌜ r ≡ badWidth (bit .0) ⌝ }
+{
+    (bit.0 == 0) | ((64 < bit.0) & !bit.is_whole_bytes()) | bit.over_max()
+}
+
+fn bad_repr(bit: Bits, repr: BuiltinTypes) -> bool
+    ensures { λ r. ⌜ r ≡ badRepr (bit .0) repr ⌝ }
+{
+    !same_type(repr, infer_repr(bit)) & !(is_slice(repr) & (8 < bit.0) & bit.is_whole_bytes())
+}
+
+fn bad_arg(bit: Bits, repr: BuiltinTypes, arg: Arg) -> bool
+    ensures { λ r. ⌜ r ≡ badArg (bit .0) repr arg ⌝ }
+{
+    match arg {
+        Arg::BuiltinTypes(t) => !same_type(t, repr) & !(is_bool_type(t) & (bit.0 == 1)),
+        Arg::Code => false,
+    }
+}
+
+fn is_bool(arg: Arg) -> bool
+    ensures { λ r. ⌜ r ≡ isBool arg ⌝ }
+{
+    match arg {
+        Arg::BuiltinTypes(t) => is_bool_type(t),
+        Arg::Code => false,
+    }
+}
+
+fn bad_bool(d: DefaultVal) -> bool
+    ensures { λ r. ⌜ r ≡ badBool d ⌝ }
+{
+    match d {
+        DefaultVal::Num(n) => 1 < n,
+        DefaultVal::Bool(_) => true, // kind 3: only the numbers 0 and 1 pass
+        DefaultVal::Bytes(_) => true,
+    }
+}
+
+fn bad_bytes(bit: Bits, d: DefaultVal) -> bool
+    ensures { λ r. ⌜ r ≡ badBytes (bit .0) d ⌝ }
+{
+    match d {
+        DefaultVal::Num(_) => true,
+        DefaultVal::Bool(_) => true,
+        DefaultVal::Bytes(s) => (s.len as u64) != bit.whole_bytes().0,
+    }
+}
+
+// Whether a number is over the largest value.
+fn is_over(n: u64, most: MaxValue) -> bool
+    ensures { λ r. ⌜ r ≡ over n (valueOf most) ⌝ }
+{
+    match most {
+        MaxValue::Is(m) => m < n,
+        MaxValue::None => true,
+    }
+}
+
+fn bad_number(bit: Bits, d: DefaultVal) -> bool
+    ensures { λ r. ⌜ r ≡ badNumber (bit .0) d ⌝ }
+{
+    match d {
+        DefaultVal::Num(n) => is_over(n, number::max_value(bit)),
+        DefaultVal::Bool(_) => true,
+        DefaultVal::Bytes(_) => true,
+    }
+}
+
+fn fixed_bytes(d: DefaultVal, fixed: bool) -> bool
+    ensures { λ r. ⌜ r ≡ fixedBytes d fixed ⌝ }
+{
+    match d {
+        DefaultVal::Num(_) => false,
+        DefaultVal::Bool(_) => false,
+        DefaultVal::Bytes(_) => fixed,
+    }
+}
+
+// ---- the tests in order
+
+// Refused for this reason where the test holds.
+fn refuse(test: bool, fault: FieldFault, place: usize) -> Verdict
+    ensures { λ r. ⌜ paper r ≡ refusedIf test Group.Field (fieldNumber fault) place ⌝ }
+{
+    Verdict::refuse(test, Refusal::Field(fault, place))
+}
+
+fn check_value(place: usize, bit: Bits, repr: BuiltinTypes, arg: Arg, d: DefaultVal) -> Verdict
+    ensures { λ r. ⌜ paper r ≡ valueCheck place (bit .0) repr arg d ⌝ }
+{
+    if is_bool(arg) {
+        return refuse(bad_bool(d), FieldFault::BoolDefaultNotZeroOrOne, place);
+    }
+    if is_slice(repr) {
+        return refuse(
+            bad_bytes(bit, d),
+            FieldFault::SliceDefaultNotItsBytes,
+            place,
+        );
+    }
+    refuse(
+        bad_number(bit, d),
+        FieldFault::NumberDefaultNotInWidth,
+        place,
+    )
+}
+
+fn check_default(
+    place: usize,
+    bit: Bits,
+    repr: BuiltinTypes,
+    arg: Arg,
+    default: DefinedDefault,
+) -> Verdict
+    ensures { λ r. ⌜ paper r ≡ defaultCheck place (bit .0) repr arg default ⌝ }
+{
+    let DefinedDefault::Given(d, fixed) = default else {
+        return Verdict::Accepted;
+    };
+    let value = check_value(place, bit, repr, arg, d);
+    let fixing = refuse(fixed_bytes(d, fixed), FieldFault::BytesDefaultFixed, place);
+    value.and_then(fixing)
+}
+
+fn check_items(
+    place: usize,
+    bit: Bits,
+    repr: DefinedRepr,
+    arg: DefinedArg,
+    default: DefinedDefault,
+) -> Verdict
+    ensures { λ r. ⌜ paper r ≡ fieldCheck place (bit .0) repr arg default ⌝ }
+{
+    let t = repr_or_inferred(bit, repr);
+    let a = arg_or_repr(t, arg);
+    let width = refuse(bad_width(bit), FieldFault::WidthNotAllowed, place);
+    let held = refuse(bad_repr(bit, t), FieldFault::ReprNotAllowed, place);
+    let handed = refuse(bad_arg(bit, t, a), FieldFault::ArgNotAllowed, place);
+    let value = check_default(place, bit, t, a, default);
+    width.and_then(held.and_then(handed.and_then(value)))
+}
+
+// ---- the items of an F block
+
+fn type_of(code: u8) -> BuiltinTypes
+    ensures { λ r. ⌜ r ≡ typeOf code ⌝ }
+{
+    match code {
+        1 => BuiltinTypes::U8,
+        2 => BuiltinTypes::U16,
+        3 => BuiltinTypes::U32,
+        4 => BuiltinTypes::U64,
+        5 => BuiltinTypes::ByteSlice,
+        _ => BuiltinTypes::Bool,
+    }
+}
+
+fn bits_in(b: &[u8]) -> Bits
+    ensures { λ r. ⌜ r .0 ≡ bitsIn (now (b .entry)) ⌝ }
+{
+    Bits(be32(b, 66) as u64)
+}
+
+fn repr_in(b: &[u8]) -> DefinedRepr
+    ensures { λ r. ⌜ r ≡ reprIn (now (b .entry)) ⌝ }
+{
+    let code = byte_at(b, 70);
+    if code == 0 {
+        return DefinedRepr::Absent;
+    }
+    DefinedRepr::Given(type_of(code))
+}
+
+fn arg_in(b: &[u8]) -> DefinedArg
+    ensures { λ r. ⌜ r ≡ argIn (now (b .entry)) ⌝ }
+{
+    let code = byte_at(b, 71);
+    if code == 0 {
+        return DefinedArg::Absent;
+    }
+    if code == 7 {
+        return DefinedArg::Given(Arg::Code);
+    }
+    DefinedArg::Given(Arg::BuiltinTypes(type_of(code)))
+}
+
+fn gen_in(b: &[u8]) -> DefinedGen
+    ensures { λ r. ⌜ r ≡ genIn (now (b .entry)) ⌝ }
+{
+    let code = byte_at(b, 72);
+    if code == 0 {
+        return DefinedGen::Absent;
+    }
+    DefinedGen::Given(code == 2)
+}
+
+fn value_in(b: &[u8]) -> DefaultVal
+    ensures { λ r. ⌜ r ≡ valueIn (now (b .entry)) ⌝ }
+{
+    let kind = byte_at(b, 73);
+    let number = be64(b, 76);
+    if kind == 1 {
+        return DefaultVal::Num(number);
+    }
+    if kind == 2 {
+        return DefaultVal::Bytes(Span {
+            at: 86,
+            len: be16(b, 84) as usize,
+        });
+    }
+    DefaultVal::Bool(number == 1)
+}
+
+fn default_in(b: &[u8]) -> DefinedDefault
+    ensures { λ r. ⌜ r ≡ defaultIn (now (b .entry)) ⌝ }
+{
+    if byte_at(b, 73) == 0 {
+        return DefinedDefault::Absent;
+    }
+    DefinedDefault::Given(value_in(b), byte_at(b, 74) == 1)
+}
+
+impl Field {
+    // The field of five items, as the Rust's `Field::new`; alone a refusal has place 0.
+    pub fn new(
+        bit: Bits,
+        repr: DefinedRepr,
+        arg: DefinedArg,
+        default: DefinedDefault,
+        generate: DefinedGen,
+    ) -> NewField
+        ensures { λ r. ⌜ fieldAnswer r ≡ newField 0 (bit .0) repr arg default generate ⌝ }
+    {
+        Field::new_at(0, bit, repr, arg, default, generate)
+    }
+
+    // The field of an F block; a refusal has the place given.
+    pub fn from_block(b: &[u8], place: usize) -> NewField
+        ensures { λ r. ⌜ fieldAnswer r ≡ fieldIn (now (b .entry)) place ⌝ }
+    {
+        Field::new_at(
+            place,
+            bits_in(b),
+            repr_in(b),
+            arg_in(b),
+            default_in(b),
+            gen_in(b),
+        )
+    }
+
+    fn new_at(
+        place: usize,
+        bit: Bits,
+        repr: DefinedRepr,
+        arg: DefinedArg,
+        default: DefinedDefault,
+        generate: DefinedGen,
+    ) -> NewField
+        ensures { λ r. ⌜ fieldAnswer r ≡ newField place (bit .0) repr arg default generate ⌝ }
+    {
+        let v = check_items(place, bit, repr, arg, default);
+        if let Verdict::Refused(reason) = v {
+            return NewField::Refused(reason);
+        }
+        let t = repr_or_inferred(bit, repr);
+        NewField::Is(Field {
+            bit,
+            repr: t,
+            arg: arg_or_repr(t, arg),
+            default: default_or_zero(t, default),
+            generate: is_generated(generate),
+            fixed: is_fixed(default),
+        })
+    }
+
+    // Whether a write to the field has to be guarded.
+    pub fn need_write_guard(self) -> bool
+        ensures { λ r. ⌜ r ≡ writeGuard self ⌝ }
+    {
+        let bit = self.bit;
+        let repr = self.repr;
+        self.fixed | !bit.is_whole_bytes() | (bit.whole_bytes().0 != repr_bytes(bit, repr).0)
+    }
+}
+
+// The bytes of a repr.
+fn repr_bytes(bit: Bits, repr: BuiltinTypes) -> Bytes
+    ensures { λ r. ⌜ r .0 ≡ reprBytes (bit .0) repr ⌝ }
+{
+    match repr {
+        BuiltinTypes::U8 => Bytes(1),
+        BuiltinTypes::U16 => Bytes(2),
+        BuiltinTypes::U32 => Bytes(4),
+        BuiltinTypes::U64 => Bytes(8),
+        BuiltinTypes::ByteSlice => bit.whole_bytes(),
+        BuiltinTypes::Bool => Bytes(1),
+    }
+}
+
+// Field 1 to 7 of an F block; a refusal has the place given.
+fn check_block(b: &[u8], place: usize) -> Verdict
+    ensures { λ r. ⌜ paper r ≡ blockCheck (now (b .entry)) place ⌝ }
+{
+    check_items(place, bits_in(b), repr_in(b), arg_in(b), default_in(b))
+}
+
+// Step 2: the answer on the F blocks of a sheet, which are its first blocks.
+pub fn check(s: &[u8]) -> Verdict
+    ensures { λ r. ⌜ paper r ≡ fieldsCheck (now (s .entry)) ⌝ }
+{
+    let n = sheet::block_counts(s).fields;
+    let mut i = 0;
+    while i < n {
+        let v = check_block(sheet::block(s, i), i);
+        if let Verdict::Refused(_) = v {
+            return v;
+        }
+        i += 1;
+    }
+    Verdict::Accepted
+}
