@@ -1,0 +1,35 @@
+-- `names` is safe and ends: it goes from block to block. Assumes nothing.
+use Prim.Native.Nat.{_-_, _≤_}
+use native.Mathlib.Omega.{arith}
+use borrow.Author.Needs.{needs}
+use Rattle.stored.proofs.facts.names.Statement.{statement}
+use Rattle.stored.proofs.facts.names.Tie as tie
+
+abbrev Inv-loop : tie.InvT-loop
+Inv-loop facts s r₀ i₀ i-end r i = i ≤ i-end
+
+abbrev μ-loop : tie.MeasureT-loop
+μ-loop facts s r₀ i₀ i-end r i = i-end - i
+
+loop-holds : tie.Need-loop-holds Inv-loop μ-loop
+loop-holds c = omega arith
+
+loop-again : tie.Need-loop-again Inv-loop μ-loop
+loop-again c = omega arith
+
+pub names-spec : {M : Type 1} → statement M
+names-spec =
+    tie.close
+    (tie.spec
+    Inv-loop
+    μ-loop
+    loop-holds
+    (λ c κs. search needs)
+    (λ c κs. search needs)
+    (λ c κs. search needs)
+    (λ c κs. search needs)
+    (λ c κs. search needs)
+    (λ c. omega arith)
+    (λ c. omega arith)
+    loop-again
+    (λ c. search needs))
