@@ -3,8 +3,8 @@ use Prim.Native.Nat.{_-_, _≤_}
 use native.Mathlib.Omega.{arith}
 use lib.ListN.{length}
 use borrow.Author.Needs.{needs}
-use Rattle.stored.proofs.facts.Reading.bytes.Statement.{statement}
-use Rattle.stored.proofs.facts.Reading.bytes.Tie as tie
+use Rattle.stored.proofs.Reading.bytes.Statement.{statement}
+use Rattle.stored.proofs.Reading.bytes.Tie as tie
 
 abbrev Inv-loop : tie.InvT-loop
 Inv-loop facts part r₀ i₀ r i = i ≤ length part

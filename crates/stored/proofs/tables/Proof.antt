@@ -1,9 +1,9 @@
--- `fields` is safe and ends: it goes from block to block. Assumes nothing.
+-- `tables` is safe and ends: it goes from block to block. Assumes nothing.
 use Prim.Native.Nat.{_-_, _≤_}
 use native.Mathlib.Omega.{arith}
 use borrow.Author.Needs.{needs}
-use Rattle.stored.proofs.facts.fields.Statement.{statement}
-use Rattle.stored.proofs.facts.fields.Tie as tie
+use Rattle.stored.proofs.tables.Statement.{statement}
+use Rattle.stored.proofs.tables.Tie as tie
 
 abbrev Inv-loop : tie.InvT-loop
 Inv-loop facts s r₀ i₀ i-end r i = i ≤ i-end
@@ -17,19 +17,16 @@ loop-holds c = omega arith
 loop-again : tie.Need-loop-again Inv-loop μ-loop
 loop-again c = omega arith
 
-pub fields-spec : {M : Type 1} → statement M
-fields-spec =
+pub tables-spec : {M : Type 1} → statement M
+tables-spec =
     tie.close
     (tie.spec
     Inv-loop
     μ-loop
-    (λ c κs. search needs)
     loop-holds
     (λ c κs. search needs)
     (λ c κs. search needs)
-    (λ c. search needs)
     (λ c κs. search needs)
-    (λ c. search needs)
     (λ c κs. search needs)
     (λ c. omega arith)
     (λ c. omega arith)

@@ -2,8 +2,8 @@
 use Prim.Native.Nat.{_-_, _≤_}
 use native.Mathlib.Omega.{arith}
 use borrow.Author.Needs.{needs}
-use Rattle.stored.proofs.facts.names.Statement.{statement}
-use Rattle.stored.proofs.facts.names.Tie as tie
+use Rattle.stored.proofs.names.Statement.{statement}
+use Rattle.stored.proofs.names.Tie as tie
 
 abbrev Inv-loop : tie.InvT-loop
 Inv-loop facts s r₀ i₀ i-end r i = i ≤ i-end
