@@ -1,4 +1,2 @@
 pub mod Fields
-pub mod OnBlock
-pub mod Step
 pub mod Sound

@@ -6,20 +6,14 @@ use answer::Verdict;
 use number::Bits;
 use number::Bytes;
 use number::MaxValue;
-use octets::be16;
-use octets::be32;
-use octets::be64;
-use octets::byte_at;
 use types::Arg;
 use types::BuiltinTypes;
 ghost use mathlib.Core.Path.{_≡_};
 ghost use Rattle.answer.specs.declared.Group.{Group};
 ghost use Rattle.answer.specs.Paper.{fieldNumber, paper, refuse as refusedIf};
 ghost use Rattle.number.specs.Numbers.{valueOf};
-ghost use Rattle.types.specs.Types.{typeOf, sameType, isSlice, isBoolType};
+ghost use Rattle.types.specs.Types.{sameType, isSlice, isBoolType};
 ghost use Rattle.field.specs.Fields.{inferRepr, reprOf, argOf, inferDefault, defaultOf, fixedOf, genOf, badWidth, badRepr, badArg, isBool, badBool, badBytes, over, badNumber, fixedBytes, valueCheck, defaultCheck, fieldCheck, newField, fieldAnswer, reprBytes, writeGuard};
-ghost use Rattle.field.specs.OnBlock.{bitsIn, reprIn, argIn, genIn, valueIn, defaultIn, blockCheck, fieldIn};
-ghost use Rattle.field.specs.Step.{fieldsCheck};
 
 // A stretch of bytes in the block of a field.
 pub struct Span {
@@ -169,18 +163,21 @@ fn is_bool_type(t: BuiltinTypes) -> bool
     same_type(t, BuiltinTypes::Bool)
 }
 
+// Field 1: a width that no field may have.
 fn bad_width(bit: Bits) -> bool
     ensures { λ r. ⌜ r ≡ badWidth (bit .0) ⌝ }
 {
     (bit.0 == 0) | ((64 < bit.0) & !bit.is_whole_bytes()) | bit.over_max()
 }
 
+// Field 2: neither the inferred type nor a byte slice of whole bytes.
 fn bad_repr(bit: Bits, repr: BuiltinTypes) -> bool
     ensures { λ r. ⌜ r ≡ badRepr (bit .0) repr ⌝ }
 {
     !same_type(repr, infer_repr(bit)) & !(is_slice(repr) & (8 < bit.0) & bit.is_whole_bytes())
 }
 
+// Field 3: neither the repr, nor bool on 1 bit, nor code.
 fn bad_arg(bit: Bits, repr: BuiltinTypes, arg: Arg) -> bool
     ensures { λ r. ⌜ r ≡ badArg (bit .0) repr arg ⌝ }
 {
@@ -199,16 +196,18 @@ fn is_bool(arg: Arg) -> bool
     }
 }
 
+// Field 4: not the number 0 or 1.
 fn bad_bool(d: DefaultVal) -> bool
     ensures { λ r. ⌜ r ≡ badBool d ⌝ }
 {
     match d {
         DefaultVal::Num(n) => 1 < n,
-        DefaultVal::Bool(_) => true, // kind 3: only the numbers 0 and 1 pass
+        DefaultVal::Bool(_) => true, // of kind 3: never
         DefaultVal::Bytes(_) => true,
     }
 }
 
+// Field 5: not as many bytes as the field has.
 fn bad_bytes(bit: Bits, d: DefaultVal) -> bool
     ensures { λ r. ⌜ r ≡ badBytes (bit .0) d ⌝ }
 {
@@ -229,6 +228,7 @@ fn is_over(n: u64, most: MaxValue) -> bool
     }
 }
 
+// Field 6: no number within the width.
 fn bad_number(bit: Bits, d: DefaultVal) -> bool
     ensures { λ r. ⌜ r ≡ badNumber (bit .0) d ⌝ }
 {
@@ -239,6 +239,7 @@ fn bad_number(bit: Bits, d: DefaultVal) -> bool
     }
 }
 
+// Field 7: bytes that are fixed.
 fn fixed_bytes(d: DefaultVal, fixed: bool) -> bool
     ensures { λ r. ⌜ r ≡ fixedBytes d fixed ⌝ }
 {
@@ -295,7 +296,8 @@ fn check_default(
     value.and_then(fixing)
 }
 
-fn check_items(
+// Field 1 to 7 of the items, in order; a refusal has the place given.
+pub fn check_items(
     place: usize,
     bit: Bits,
     repr: DefinedRepr,
@@ -313,84 +315,18 @@ fn check_items(
     width.and_then(held.and_then(handed.and_then(value)))
 }
 
-// ---- the items of an F block
-
-fn type_of(code: u8) -> BuiltinTypes
-    ensures { λ r. ⌜ r ≡ typeOf code ⌝ }
+// The bytes of a repr.
+fn repr_bytes(bit: Bits, repr: BuiltinTypes) -> Bytes
+    ensures { λ r. ⌜ r .0 ≡ reprBytes (bit .0) repr ⌝ }
 {
-    match code {
-        1 => BuiltinTypes::U8,
-        2 => BuiltinTypes::U16,
-        3 => BuiltinTypes::U32,
-        4 => BuiltinTypes::U64,
-        5 => BuiltinTypes::ByteSlice,
-        _ => BuiltinTypes::Bool,
+    match repr {
+        BuiltinTypes::U8 => Bytes(1),
+        BuiltinTypes::U16 => Bytes(2),
+        BuiltinTypes::U32 => Bytes(4),
+        BuiltinTypes::U64 => Bytes(8),
+        BuiltinTypes::ByteSlice => bit.whole_bytes(),
+        BuiltinTypes::Bool => Bytes(1),
     }
-}
-
-fn bits_in(b: &[u8]) -> Bits
-    ensures { λ r. ⌜ r .0 ≡ bitsIn (now (b .entry)) ⌝ }
-{
-    Bits(be32(b, 66) as u64)
-}
-
-fn repr_in(b: &[u8]) -> DefinedRepr
-    ensures { λ r. ⌜ r ≡ reprIn (now (b .entry)) ⌝ }
-{
-    let code = byte_at(b, 70);
-    if code == 0 {
-        return DefinedRepr::Absent;
-    }
-    DefinedRepr::Given(type_of(code))
-}
-
-fn arg_in(b: &[u8]) -> DefinedArg
-    ensures { λ r. ⌜ r ≡ argIn (now (b .entry)) ⌝ }
-{
-    let code = byte_at(b, 71);
-    if code == 0 {
-        return DefinedArg::Absent;
-    }
-    if code == 7 {
-        return DefinedArg::Given(Arg::Code);
-    }
-    DefinedArg::Given(Arg::BuiltinTypes(type_of(code)))
-}
-
-fn gen_in(b: &[u8]) -> DefinedGen
-    ensures { λ r. ⌜ r ≡ genIn (now (b .entry)) ⌝ }
-{
-    let code = byte_at(b, 72);
-    if code == 0 {
-        return DefinedGen::Absent;
-    }
-    DefinedGen::Given(code == 2)
-}
-
-fn value_in(b: &[u8]) -> DefaultVal
-    ensures { λ r. ⌜ r ≡ valueIn (now (b .entry)) ⌝ }
-{
-    let kind = byte_at(b, 73);
-    let number = be64(b, 76);
-    if kind == 1 {
-        return DefaultVal::Num(number);
-    }
-    if kind == 2 {
-        return DefaultVal::Bytes(Span {
-            at: 86,
-            len: be16(b, 84) as usize,
-        });
-    }
-    DefaultVal::Bool(number == 1)
-}
-
-fn default_in(b: &[u8]) -> DefinedDefault
-    ensures { λ r. ⌜ r ≡ defaultIn (now (b .entry)) ⌝ }
-{
-    if byte_at(b, 73) == 0 {
-        return DefinedDefault::Absent;
-    }
-    DefinedDefault::Given(value_in(b), byte_at(b, 74) == 1)
 }
 
 impl Field {
@@ -407,21 +343,8 @@ impl Field {
         Field::new_at(0, bit, repr, arg, default, generate)
     }
 
-    // The field of an F block; a refusal has the place given.
-    pub fn from_block(b: &[u8], place: usize) -> NewField
-        ensures { λ r. ⌜ fieldAnswer r ≡ fieldIn (now (b .entry)) place ⌝ }
-    {
-        Field::new_at(
-            place,
-            bits_in(b),
-            repr_in(b),
-            arg_in(b),
-            default_in(b),
-            gen_in(b),
-        )
-    }
-
-    fn new_at(
+    // The same with a place of its own.
+    pub fn new_at(
         place: usize,
         bit: Bits,
         repr: DefinedRepr,
@@ -454,41 +377,4 @@ impl Field {
         let repr = self.repr;
         self.fixed | !bit.is_whole_bytes() | (bit.whole_bytes().0 != repr_bytes(bit, repr).0)
     }
-}
-
-// The bytes of a repr.
-fn repr_bytes(bit: Bits, repr: BuiltinTypes) -> Bytes
-    ensures { λ r. ⌜ r .0 ≡ reprBytes (bit .0) repr ⌝ }
-{
-    match repr {
-        BuiltinTypes::U8 => Bytes(1),
-        BuiltinTypes::U16 => Bytes(2),
-        BuiltinTypes::U32 => Bytes(4),
-        BuiltinTypes::U64 => Bytes(8),
-        BuiltinTypes::ByteSlice => bit.whole_bytes(),
-        BuiltinTypes::Bool => Bytes(1),
-    }
-}
-
-// Field 1 to 7 of an F block; a refusal has the place given.
-fn check_block(b: &[u8], place: usize) -> Verdict
-    ensures { λ r. ⌜ paper r ≡ blockCheck (now (b .entry)) place ⌝ }
-{
-    check_items(place, bits_in(b), repr_in(b), arg_in(b), default_in(b))
-}
-
-// Step 2: the answer on the F blocks of a sheet, which are its first blocks.
-pub fn check(s: &[u8]) -> Verdict
-    ensures { λ r. ⌜ paper r ≡ fieldsCheck (now (s .entry)) ⌝ }
-{
-    let n = sheet::block_counts(s).fields;
-    let mut i = 0;
-    while i < n {
-        let v = check_block(sheet::block(s, i), i);
-        if let Verdict::Refused(_) = v {
-            return v;
-        }
-        i += 1;
-    }
-    Verdict::Accepted
 }

@@ -181,7 +181,7 @@ fn fields(r: Reading, facts: &[u8], s: &[u8]) -> Reading {
     let mut r = r;
     for i in 0..sheet::block_counts(s).fields {
         let b = sheet::block(s, i);
-        match Field::from_block(b, i) {
+        match fields::from_block(b, i) {
             NewField::Is(f) => r = field_of(r, facts, b, f),
             NewField::Refused(_) => r = r.byte(facts, 0),
         }
@@ -250,7 +250,7 @@ fn group_code(group: Group) -> u8 {
 
 // Whether the answer is the one that the record has, and of an accepted sheet what it holds.
 fn is_expected(s: &[u8], head: &[u8], expected: &[u8]) -> bool {
-    match sheet::check(s).and_then(field::check(s)) {
+    match sheet::check(s).and_then(fields::check(s)) {
         Verdict::Accepted => (octets::byte_at(head, 4) == 0) & holds_facts(s, expected),
         Verdict::Refused(r) => {
             let paper = r.on_paper();

@@ -1,8 +1,8 @@
 -- `gen_in` meets its contract: the case of the byte that the test found. Assumes nothing.
 use borrow.Author.Needs.{needs}
 use borrow.Author.Tests.{ne-eqb}
-use Rattle.field.proofs.gen_in.Statement.{statement}
-use Rattle.field.proofs.gen_in.Tie as tie
+use Rattle.fields.proofs.gen_in.Statement.{statement}
+use Rattle.fields.proofs.gen_in.Tie as tie
 
 returns : tie.Need-returns
 returns c = rw (← (c .before .byte-at .ensures), c .if1 .taken)

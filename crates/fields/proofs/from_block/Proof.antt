@@ -1,7 +1,7 @@
--- `Field::from_block` meets its contract: the items are those of the block, and `new_at` makes the field. Assumes nothing.
+-- `from_block` meets its contract: the items are those of the block, and `new_at` makes the field. Assumes nothing.
 use borrow.Author.Needs.{needs}
-use Rattle.field.proofs.Field.from_block.Statement.{statement}
-use Rattle.field.proofs.Field.from_block.Tie as tie
+use Rattle.fields.proofs.from_block.Statement.{statement}
+use Rattle.fields.proofs.from_block.Tie as tie
 
 returns : tie.Need-returns
 returns c =

@@ -1,8 +1,8 @@
 -- `arg_in` meets its contract: the case of the byte that the tests found. Assumes nothing.
 use borrow.Author.Needs.{needs}
 use borrow.Author.Tests.{ne-eqb}
-use Rattle.field.proofs.arg_in.Statement.{statement}
-use Rattle.field.proofs.arg_in.Tie as tie
+use Rattle.fields.proofs.arg_in.Statement.{statement}
+use Rattle.fields.proofs.arg_in.Tie as tie
 
 returns : tie.Need-returns
 returns c = rw (← (c .before .byte-at .ensures), c .if1 .taken)

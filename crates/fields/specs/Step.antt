@@ -4,7 +4,7 @@ use Prim.Native.Nat.{ℕ}
 use Rattle.answer.specs.Paper.{Check, first}
 use Rattle.sheet.specs.Blocks.{blockAt}
 use Rattle.sheet.specs.Accepted.{fieldCount}
-use Rattle.field.specs.OnBlock.{blockCheck}
+use Rattle.fields.specs.OnBlock.{blockCheck}
 
 -- all F blocks in order; of a sheet that passes step 1 they are the first blocks
 abbrev pub fieldsCheck : List ℕ → Check

@@ -1,7 +1,7 @@
 -- `check_block` meets its contract: the items are those of the block. Assumes nothing.
 use borrow.Author.Needs.{needs}
-use Rattle.field.proofs.check_block.Statement.{statement}
-use Rattle.field.proofs.check_block.Tie as tie
+use Rattle.fields.proofs.check_block.Statement.{statement}
+use Rattle.fields.proofs.check_block.Tie as tie
 
 returns : tie.Need-returns
 returns c =

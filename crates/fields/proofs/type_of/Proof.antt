@@ -1,8 +1,8 @@
 -- `type_of` meets its contract: the code that the match found, or none of the five. Assumes nothing.
 use borrow.Author.Tests.{ne-eqb}
 use Rattle.types.specs.Types.{typeOf}
-use Rattle.field.proofs.type_of.Statement.{statement}
-use Rattle.field.proofs.type_of.Tie as tie
+use Rattle.fields.proofs.type_of.Statement.{statement}
+use Rattle.fields.proofs.type_of.Tie as tie
 
 returns : tie.Need-returns
 unfolding typeOf

@@ -8,9 +8,9 @@ use Rattle.answer.specs.Paper.{Check, accepted, paper, first}
 use Rattle.answer.proofs.Laws.{first-none, first-more, first-stops, passed}
 use Rattle.sheet.specs.Blocks.{blockAt}
 use Rattle.sheet.specs.Accepted.{fieldCount}
-use Rattle.field.specs.OnBlock.{blockCheck}
-use Rattle.field.proofs.check.Statement.{statement}
-use Rattle.field.proofs.check.Tie as tie
+use Rattle.fields.specs.OnBlock.{blockCheck}
+use Rattle.fields.proofs.check.Statement.{statement}
+use Rattle.fields.proofs.check.Tie as tie
 
 -- what is said of block i
 abbrev fault : List ℕ → ℕ → Check

@@ -1,0 +1,2 @@
+pub mod OnBlock
+pub mod Step
