@@ -1,15 +1,17 @@
 """Stored test sheets for steps 1 and 2 of docs/RULES.md.
 
 The program holds a list of sheets, each with the answer that steps 1 (sheet
-1 to 6) and 2 (field 1 to 7) must give, and writes them to one file.
+1 to 6) and 2 (field 1 to 7) must give, and writes them to one file, which is
+kept as crates/stored/data/sheets. It is written from the rules, apart from
+the crates: nothing here is taken from them.
 
     python3 tools/stored_sheets OUTFILE     writes the file
     python3 tools/stored_sheets --show N    prints case N, counted from 0
     python3 tools/stored_sheets --check     tests the program itself
 
-How the list is made. `answer` states the rules once, in the order of
-the document. The cases state them again: each has its answer written beside
-it. The program stops where the two differ. A case has one of three sources:
+How the list is made. `answer` states the rules once, in their order. The
+cases state them again: each has its answer written beside it. The program
+stops where the two differ. A case has one of three sources:
 
     hand      the answer is written beside the case
     table     the answer is read from a table written by hand

@@ -19,9 +19,9 @@ use Rattle.octets.specs.Octets.{byte, be}
 use Rattle.octets.specs.Ones.{checkHolds}
 use Rattle.sheet.specs.declared.Counts.{Counts}
 use Rattle.blocks.specs.Layout.{kindOf, isF, isL, isC, hasFirst, hasSecond, lName, lRest, lLayout, layoutHolds}
-use Rattle.sheet.specs.Blocks.{blockCount, blockAt, count, countsOf, isSlot}
+use Rattle.sheet.specs.Blocks.{blockCount, blockAt, count, countsOf, fieldCount, lengthCount, isSlot}
 use Rattle.sheet.specs.Sheet.{wrongLength, misplaced, tooMany, isSome, slotBefore, faultsOf, blockFault, sheetCheck}
-use Rattle.sheet.specs.Accepted.{fieldCount, lengthCount, Accepted}
+use Rattle.sheet.specs.Accepted.{Accepted}
 use Rattle.sheet.proofs.Walk.{where-nowhere, where-nothing}
 
 -- ---- the tests of one block

@@ -6,18 +6,8 @@ use Prim.Native.Nat.{ℕ, _+_, _*_, _≤_, _<_}
 use lib.ListN.{length}
 use Rattle.octets.specs.Octets.{byte}
 use Rattle.octets.specs.Ones.{checkHolds}
-use Rattle.blocks.specs.Layout.{kindOf, isF, isL, isC, layoutHolds}
-use Rattle.sheet.specs.Blocks.{blockCount, blockAt, count}
-
--- how many F, L and C blocks
-abbrev pub fieldCount : List ℕ → ℕ
-fieldCount s = count isF s (blockCount s)
-
-abbrev pub lengthCount : List ℕ → ℕ
-lengthCount s = count isL s (blockCount s)
-
-abbrev pub condCount : List ℕ → ℕ
-condCount s = count isC s (blockCount s)
+use Rattle.blocks.specs.Layout.{kindOf, layoutHolds}
+use Rattle.sheet.specs.Blocks.{blockCount, blockAt, fieldCount, lengthCount, condCount}
 
 pub record Accepted (s : List ℕ) : Type 0 where
   -- whole blocks, at most 99

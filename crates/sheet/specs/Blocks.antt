@@ -31,6 +31,16 @@ count isKind s (suc n) = count isKind s n + cond (isKind (kindOf (blockAt s n)))
 abbrev pub countsOf : List ℕ → ℕ → Counts
 countsOf s n = record { fields = count isF s n; lengths = count isL s n; conds = count isC s n }
 
+-- how many F, L and C blocks a sheet has
+abbrev pub fieldCount : List ℕ → ℕ
+fieldCount s = count isF s (blockCount s)
+
+abbrev pub lengthCount : List ℕ → ℕ
+lengthCount s = count isL s (blockCount s)
+
+abbrev pub condCount : List ℕ → ℕ
+condCount s = count isC s (blockCount s)
+
 -- with one block more, of this kind
 abbrev pub counted : Counts → ℕ → Counts
 counted c kind =

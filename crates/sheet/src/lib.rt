@@ -85,7 +85,7 @@ fn gives_slot(b: &[u8], slot: u8) -> bool
 }
 
 // The first of the first n blocks that gives a slot.
-pub fn slot_among(s: &[u8], slot: u8, n: usize) -> SlotBlock
+fn slot_among(s: &[u8], slot: u8, n: usize) -> SlotBlock
     ensures { λ r. ⌜ blockOf r ≡ slotBlock (now (s .entry)) slot n ⌝ }
 {
     let mut i = 0;

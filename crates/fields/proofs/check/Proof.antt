@@ -6,8 +6,7 @@ use native.Mathlib.Omega.{arith}
 use borrow.Author.Needs.{needs}
 use Rattle.answer.specs.Paper.{Check, accepted, paper, first}
 use Rattle.answer.proofs.Laws.{first-none, first-more, first-stops, passed}
-use Rattle.sheet.specs.Blocks.{blockAt}
-use Rattle.sheet.specs.Accepted.{fieldCount}
+use Rattle.sheet.specs.Blocks.{blockAt, fieldCount}
 use Rattle.fields.specs.OnBlock.{blockCheck}
 use Rattle.fields.proofs.check.Statement.{statement}
 use Rattle.fields.proofs.check.Tie as tie
