@@ -16,27 +16,31 @@ use types::Arg;
 use types::BuiltinTypes;
 use types::TypeNamed;
 
-// The number of a refusal at place 0, in the group field or type; 99 for any other.
-fn number_of(r: Refusal) -> u8 {
+// Which of the two groups asked for here a refusal is in: type 1, field 2, and 99 for any other.
+fn group_code(group: Group) -> u8 {
+    match group {
+        Group::Type => 1,
+        Group::Field => 2,
+        _ => 99,
+    }
+}
+
+// The number of a refusal that is in this group and at place 0; 99 for any other.
+fn number_in(group: u8, r: Refusal) -> u8 {
     let paper = r.on_paper();
-    let group = paper.group;
-    let asked = match group {
-        Group::Field => true,
-        Group::Type => true,
-        _ => false,
-    };
-    if asked & (paper.place == 0) {
+    let its = paper.group;
+    if (group_code(its) == group) & (paper.place == 0) {
         paper.number
     } else {
         99
     }
 }
 
-// The code of the type with a name, and 10 more than the number of the refusal.
+// The code of the type with a name, and 10 more than the number of its refusal.
 fn code_named(name: &[u8]) -> u8 {
     match BuiltinTypes::from(name) {
         TypeNamed::Is(t) => t.code(),
-        TypeNamed::Refused(r) => 10 + number_of(r) % 100,
+        TypeNamed::Refused(r) => 10 + number_in(1, r) % 100,
     }
 }
 
@@ -79,7 +83,7 @@ fn names_back() -> bool {
 fn asked(bits: u64, repr: DefinedRepr, arg: DefinedArg, default: DefinedDefault) -> u8 {
     match Field::new(Bits(bits), repr, arg, default, DefinedGen::Absent) {
         NewField::Is(_) => 0,
-        NewField::Refused(r) => number_of(r),
+        NewField::Refused(r) => number_in(2, r),
     }
 }
 

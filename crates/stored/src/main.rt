@@ -138,15 +138,6 @@ fn counts(r: Reading, facts: &[u8], s: &[u8]) -> Reading {
     slot(slot(slot(r, facts, s, 0), facts, s, 1), facts, s, 2)
 }
 
-fn names(r: Reading, facts: &[u8], s: &[u8]) -> Reading {
-    let mut r = r;
-    for i in 0..s.len() / 512 {
-        let name = blocks::name(sheet::block(s, i));
-        r = r.byte(facts, one_byte(name.len())).bytes(facts, name);
-    }
-    r
-}
-
 fn default_of(r: Reading, facts: &[u8], b: &[u8], d: DefaultVal) -> Reading {
     match d {
         DefaultVal::Num(n) => r.byte(facts, 1).eight(facts, n).two(facts, 0),
@@ -175,18 +166,6 @@ fn field_of(r: Reading, facts: &[u8], b: &[u8], f: Field) -> Reading {
         .flag(facts, f.fixed)
         .flag(facts, f.need_write_guard());
     default_of(r, facts, b, d)
-}
-
-fn fields(r: Reading, facts: &[u8], s: &[u8]) -> Reading {
-    let mut r = r;
-    for i in 0..sheet::block_counts(s).fields {
-        let b = sheet::block(s, i);
-        match fields::from_block(b, i) {
-            NewField::Is(f) => r = field_of(r, facts, b, f),
-            NewField::Refused(_) => r = r.byte(facts, 0),
-        }
-    }
-    r
 }
 
 fn operator(r: Reading, facts: &[u8], kind: u8, left: u8, right: u8) -> Reading {
@@ -220,13 +199,47 @@ fn table(r: Reading, facts: &[u8], b: &[u8]) -> Reading {
     r
 }
 
-fn tables(r: Reading, facts: &[u8], s: &[u8]) -> Reading {
+// What the facts have for each block: first all names, then all fields, then all trees.
+enum Section {
+    Names,
+    Fields,
+    Trees,
+}
+
+fn named(r: Reading, facts: &[u8], b: &[u8]) -> Reading {
+    let name = blocks::name(b);
+    r.byte(facts, one_byte(name.len())).bytes(facts, name)
+}
+
+fn resolved(r: Reading, facts: &[u8], b: &[u8], i: usize) -> Reading {
+    if octets::byte_at(b, 0) != b'F' {
+        return r;
+    }
+    match fields::from_block(b, i) {
+        NewField::Is(f) => field_of(r, facts, b, f),
+        NewField::Refused(_) => r.byte(facts, 0),
+    }
+}
+
+fn tree(r: Reading, facts: &[u8], b: &[u8]) -> Reading {
+    if (octets::byte_at(b, 0) == b'L') & (octets::byte_at(b, 67) == 6) {
+        return table(r, facts, b);
+    }
+    r
+}
+
+fn of_block(section: Section, r: Reading, facts: &[u8], b: &[u8], i: usize) -> Reading {
+    match section {
+        Section::Names => named(r, facts, b),
+        Section::Fields => resolved(r, facts, b, i),
+        Section::Trees => tree(r, facts, b),
+    }
+}
+
+fn of_blocks(section: Section, r: Reading, facts: &[u8], s: &[u8]) -> Reading {
     let mut r = r;
     for i in 0..s.len() / 512 {
-        let b = sheet::block(s, i);
-        if (octets::byte_at(b, 0) == b'L') & (octets::byte_at(b, 67) == 6) {
-            r = table(r, facts, b);
-        }
+        r = of_block(section, r, facts, sheet::block(s, i), i);
     }
     r
 }
@@ -234,7 +247,9 @@ fn tables(r: Reading, facts: &[u8], s: &[u8]) -> Reading {
 // Whether the sheet holds what the facts say, and nothing is left of them.
 fn holds_facts(s: &[u8], facts: &[u8]) -> bool {
     let r = counts(Reading { at: 0, ok: true }, facts, s);
-    let r = tables(fields(names(r, facts, s), facts, s), facts, s);
+    let r = of_blocks(Section::Names, r, facts, s);
+    let r = of_blocks(Section::Fields, r, facts, s);
+    let r = of_blocks(Section::Trees, r, facts, s);
     r.ok & (r.at == facts.len())
 }
 
@@ -248,16 +263,21 @@ fn group_code(group: Group) -> u8 {
     }
 }
 
-// Whether the answer is the one that the record has, and of an accepted sheet what it holds.
+// Whether the record's head has this group, number and place.
+fn has_answer(head: &[u8], group: u8, number: u8, place: usize) -> bool {
+    (octets::byte_at(head, 4) == group)
+        & (octets::byte_at(head, 5) == number)
+        & (octets::byte_at(head, 6) as usize == place)
+}
+
+// Whether the answer is the one that the record has, three zeros for accepted, and of an accepted sheet what it holds.
 fn is_expected(s: &[u8], head: &[u8], expected: &[u8]) -> bool {
     match sheet::check(s).and_then(fields::check(s)) {
-        Verdict::Accepted => (octets::byte_at(head, 4) == 0) & holds_facts(s, expected),
+        Verdict::Accepted => has_answer(head, 0, 0, 0) & holds_facts(s, expected),
         Verdict::Refused(r) => {
             let paper = r.on_paper();
             let group = paper.group;
-            (octets::byte_at(head, 4) == group_code(group))
-                & (octets::byte_at(head, 5) == paper.number)
-                & (octets::byte_at(head, 6) as usize == paper.place)
+            has_answer(head, group_code(group), paper.number, paper.place)
         }
     }
 }

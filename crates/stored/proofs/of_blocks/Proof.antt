@@ -1,15 +1,15 @@
--- `tables` is safe and ends: it goes from block to block. Assumes nothing.
+-- `of_blocks` is safe and ends: it goes from block to block. Assumes nothing.
 use Prim.Native.Nat.{_-_, _≤_}
 use native.Mathlib.Omega.{arith}
 use borrow.Author.Needs.{needs}
-use Rattle.stored.proofs.tables.Statement.{statement}
-use Rattle.stored.proofs.tables.Tie as tie
+use Rattle.stored.proofs.of_blocks.Statement.{statement}
+use Rattle.stored.proofs.of_blocks.Tie as tie
 
 abbrev Inv-loop : tie.InvT-loop
-Inv-loop facts s r₀ i₀ i-end r i = i ≤ i-end
+Inv-loop section facts s r₀ i₀ i-end r i = i ≤ i-end
 
 abbrev μ-loop : tie.MeasureT-loop
-μ-loop facts s r₀ i₀ i-end r i = i-end - i
+μ-loop section facts s r₀ i₀ i-end r i = i-end - i
 
 loop-holds : tie.Need-loop-holds Inv-loop μ-loop
 loop-holds c = omega arith
@@ -17,15 +17,13 @@ loop-holds c = omega arith
 loop-again : tie.Need-loop-again Inv-loop μ-loop
 loop-again c = omega arith
 
-pub tables-spec : {M : Type 1} → statement M
-tables-spec =
+pub of-blocks-spec : {M : Type 1} → statement M
+of-blocks-spec =
     tie.close
     (tie.spec
     Inv-loop
     μ-loop
     loop-holds
-    (λ c κs. search needs)
-    (λ c κs. search needs)
     (λ c κs. search needs)
     (λ c κs. search needs)
     (λ c. omega arith)
