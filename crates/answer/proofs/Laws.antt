@@ -2,7 +2,7 @@
 -- check. Assumes nothing.
 use mathlib.Core.Path.{_≡_, refl, ap, sym, _∙_}
 use mathlib.Core.Bool.{Bool, true, false}
-use mathlib.Core.Logic.{_⊎_, inl, inr, ⊎-elim}
+use mathlib.Core.Logic.{_⊎_, inl, inr, ⊎-elim, _↔_}
 use Prim.Native.Nat.{ℕ, zero, suc, _+_, _<_}
 use native.Mathlib.Nat.{eq-or-lt-of-le}
 use native.Mathlib.Numerals.{add-one}
@@ -47,6 +47,23 @@ both (refused g n at) y e = (cc, cc)
 pub not-refused : (test : Bool) (g : Group) (n at : ℕ) → refuse test g n at ≡ accepted → test ≡ false
 not-refused true g n at e = cc
 not-refused false g n at e = refl
+
+-- so exactly where the tests do not hold
+pub both-is : (x y : Check) → ((x andThen y) ≡ accepted) ↔ ((x ≡ accepted) × (y ≡ accepted))
+both-is x y = (both x y, λ p. rw (p .0) (p .1))
+
+pub refuse-is : (test : Bool) (g : Group) (n at : ℕ) → (refuse test g n at ≡ accepted) ↔ (test ≡ false)
+refuse-is test g n at = (not-refused test g n at, λ e. rw e)
+
+-- a value is given where the check before it passed
+pub given : {A : Type 0} (x : Check) {u v : A} → (x andThen gives u) ≡ gives v → (x ≡ accepted) × (u ≡ v)
+given (gives _) e = (refl, cc)
+given (refused g n at) e = (cc, cc)
+
+-- and none where it refused
+pub not-given : {A : Type 0} (x : Check) (u : A) {g : Group} {n at : ℕ} → (x andThen gives u) ≡ refused g n at → x ≡ refused g n at
+not-given (gives _) u e = cc
+not-given (refused g n at) u e = cc
 
 -- what the program had from a check: it refused, and that stands; or it passed
 pub stop : {v : Verdict} {r : Refusal} {x : Check} (y : Check) → v ≡ Verdict.Refused r → paper v ≡ x → paper v ≡ (x andThen y)

@@ -1,6 +1,6 @@
 -- What a write to a run of bits does, start and width left open, for numbers and for bytes, which are the run of all their bits: it has one result;
 -- it reads back; nothing else changes; writing what was read changes nothing; the second of two writes counts; disjoint writes commute.
--- Each law speaks of `bit` and `value`, the bit order of RFC 791. Last, the contracts of the two writes allow one answer. Assumes nothing.
+-- Each law speaks of `bit` and `value`, the bit order of RFC 791. Last, the contracts of the writes allow one answer. Assumes nothing.
 use mathlib.Core.Path.{_≡_, sym, ap, _∙_, subst}
 use mathlib.Core.List.{List}
 use mathlib.Core.Logic.{_⊎_, inl, inr}
@@ -10,12 +10,13 @@ use native.Mathlib.Omega.{arith}
 use lib.ListN.{length, take, drop, length-drop}
 use lib.Pow.{pow-pos, pow-add, shr-shr, high}
 use lib.Seq.{length-take-le, getD-take, getD-drop}
+use borrow.Author.Tests.{lt-ltb, le-ltb, le-leb}
 use Rattle.octets.specs.Octets.{AreBytes, byte}
-use Rattle.bits.specs.Bits.{bit, value, spelled}
+use Rattle.bits.specs.Bits.{bit, value, spelled, touched}
 use Rattle.bits.specs.declared.NumberWrite.{NumberWrite}
 use Rattle.bits.specs.declared.BytesWrite.{BytesWrite}
 use Rattle.bits.specs.Writes.{Wrote, newBit, put, putBytes}
-use Rattle.bits.specs.Runs.{afterNumber, NumberWritten, afterBytes, BytesWritten}
+use Rattle.bits.specs.Runs.{fitOf, writeAnswer, afterNumber, NumberWritten, bytesAnswer, afterBytes, BytesWritten}
 use Rattle.bits.proofs.Num.{num-ext, num-inj, num-digits, num-at}
 use Rattle.octets.proofs.Laws.{bytes-take, bytes-drop}
 use Rattle.bits.proofs.Bits.{bit-lt, bit-moved, bits-ext, spelled-ext, value-lt, value-byte}
@@ -194,7 +195,7 @@ write-bytes-read b f n h within =
     ∙ ap (λ (m : ℕ). put b (8 * f) (8 * m) (value b (8 * f) (8 * n))) (part-count b f n within)
     ∙ write-read b (8 * f) (8 * n) h
 
--- ---- the contracts of the two writes: one answer, and one buffer after it
+-- ---- the contracts of the writes: one answer, and one buffer after it
 
 -- where the answer is given, and the buffer by the answer
 written-one : {A : Type 0} {a q r : A} {c d : List ℕ} (after : A → List ℕ) → q ≡ a → r ≡ a → c ≡ after q → d ≡ after r → (q ≡ r) × (c ≡ d)
@@ -204,6 +205,20 @@ pub number-written-one : {b c d : List ℕ} {s w v : ℕ} {q r : NumberWrite} �
 number-written-one {b} {s = s} {w} {v} x y =
     written-one (λ (q : NumberWrite). afterNumber q b (put b s w v)) (x .answer) (y .answer) (x .bytes) (y .bytes)
 
-pub bytes-written-one : {b c d : List ℕ} {f : ℕ} {l : List ℕ} {q r : BytesWrite} → BytesWritten b c f l q → BytesWritten b d f l r → (q ≡ r) × (c ≡ d)
-bytes-written-one {b} {f = f} {l} x y =
-    written-one (λ (q : BytesWrite). afterBytes q b (putBytes b f l)) (x .answer) (y .answer) (x .bytes) (y .bytes)
+pub bytes-written-one : {b c d : List ℕ} {f n v : ℕ} {q r : BytesWrite} → BytesWritten b c f n v q → BytesWritten b d f n v r → (q ≡ r) × (c ≡ d)
+bytes-written-one {b} {f = f} {n} {v} x y =
+    written-one (λ (q : BytesWrite). afterBytes q b (put b (8 * f) (8 * n) v)) (x .answer) (y .answer) (x .bytes) (y .bytes)
+
+-- ---- and where nothing stands against a write, the buffer is the one that `put` gives
+
+pub number-put : {b c : List ℕ} {s w v : ℕ} {r : NumberWrite} → touched s w ≤ 8 → s + w ≤ 8 * length b → v < 2 ^ w → NumberWritten b c s w v r → c ≡ put b s w v
+unfolding writeAnswer fitOf
+number-put {b} {s = s} {w} {v} narrow within small x =
+    let done : writeAnswer (length b) s w v ≡ NumberWrite.Done = rw (le-ltb 8 (touched s w) narrow, le-ltb (8 * length b) (s + w) within, lt-ltb v (2 ^ w) small) in
+    x .bytes ∙ ap (λ (q : NumberWrite). afterNumber q b (put b s w v)) (x .answer ∙ done)
+
+pub bytes-put : {b c : List ℕ} {f n v : ℕ} {r : BytesWrite} → f + n ≤ length b → BytesWritten b c f n v r → c ≡ put b (8 * f) (8 * n) v
+unfolding bytesAnswer
+bytes-put {b} {f = f} {n} {v} within x =
+    let done : bytesAnswer b f n ≡ BytesWrite.Done = rw (le-leb (f + n) (length b) within) in
+    x .bytes ∙ ap (λ (q : BytesWrite). afterBytes q b (put b (8 * f) (8 * n) v)) (x .answer ∙ done)

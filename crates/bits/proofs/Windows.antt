@@ -275,10 +275,10 @@ write-large n s w v e h = write-is n s w v Fit.Fits e ∙ ap (λ (t : Bool). con
 pub write-done : (n s w v : ℕ) → fitOf n s w ≡ Fit.Fits → ltb v (2 ^ w) ≡ true → writeAnswer n s w v ≡ NumberWrite.Done
 write-done n s w v e h = write-is n s w v Fit.Fits e ∙ ap (λ (t : Bool). cond t NumberWrite.Done NumberWrite.TooLarge) h
 
-pub bytes-done : (b : List ℕ) (f : ℕ) (l : List ℕ) → leb (f + length l) (length b) ≡ true → bytesAnswer b f l ≡ BytesWrite.Done
+pub bytes-done : (b : List ℕ) (f n : ℕ) → leb (f + n) (length b) ≡ true → bytesAnswer b f n ≡ BytesWrite.Done
 unfolding bytesAnswer
-bytes-done b f l h = rw h
+bytes-done b f n h = rw h
 
-pub bytes-outside : (b : List ℕ) (f : ℕ) (l : List ℕ) → leb (f + length l) (length b) ≡ false → bytesAnswer b f l ≡ BytesWrite.Outside
+pub bytes-outside : (b : List ℕ) (f n : ℕ) → leb (f + n) (length b) ≡ false → bytesAnswer b f n ≡ BytesWrite.Outside
 unfolding bytesAnswer
-bytes-outside b f l h = rw h
+bytes-outside b f n h = rw h

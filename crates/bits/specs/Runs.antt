@@ -10,7 +10,7 @@ use Rattle.bits.specs.declared.NumberRead.{NumberRead}
 use Rattle.bits.specs.declared.NumberWrite.{NumberWrite}
 use Rattle.bits.specs.declared.BytesWrite.{BytesWrite}
 use Rattle.bits.specs.Bits.{value, touched}
-use Rattle.bits.specs.Writes.{put, putBytes}
+use Rattle.bits.specs.Writes.{put}
 
 -- ---- numbers
 
@@ -57,16 +57,17 @@ holdsBytes b f n = leb (f + n) (length b)
 unfoldable pub bytesAt : List ℕ → ℕ → ℕ → List ℕ
 bytesAt b f n = cond (holdsBytes b f n) (take n (drop f b)) []
 
-unfoldable pub bytesAnswer : List ℕ → ℕ → List ℕ → BytesWrite
-bytesAnswer b f l = cond (holdsBytes b f (length l)) BytesWrite.Done BytesWrite.Outside
+unfoldable pub bytesAnswer : List ℕ → ℕ → ℕ → BytesWrite
+bytesAnswer b f n = cond (holdsBytes b f n) BytesWrite.Done BytesWrite.Outside
 
 abbrev pub afterBytes : BytesWrite → List ℕ → List ℕ → List ℕ
 afterBytes BytesWrite.Done b b' = b'
 afterBytes BytesWrite.Outside b b' = b
 
-pub record BytesWritten (b b' : List ℕ) (f : ℕ) (l : List ℕ) (r : BytesWrite) : Type 0 where
-  pub answer : r ≡ bytesAnswer b f l
-  pub bytes : b' ≡ afterBytes r b (putBytes b f l)
+-- n bytes from byte f on, whose bits spell v: bytes that are given, or zeros
+pub record BytesWritten (b b' : List ℕ) (f n v : ℕ) (r : BytesWrite) : Type 0 where
+  pub answer : r ≡ bytesAnswer b f n
+  pub bytes : b' ≡ afterBytes r b (put b (8 * f) (8 * n) v)
 
 -- ---- a window of 64 bits
 

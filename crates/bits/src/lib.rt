@@ -9,7 +9,7 @@ ghost use Prim.Native.Nat.{_+_, _-_, _*_, _/_, _%_, _^_, _≤_, _<_};
 ghost use lib.Dec.{ltb};
 ghost use lib.ListN.{length};
 ghost use Rattle.octets.specs.Octets.{AreBytes};
-ghost use Rattle.bits.specs.Bits.{touched as touchedBy};
+ghost use Rattle.bits.specs.Bits.{spelled, touched as touchedBy};
 ghost use Rattle.bits.specs.Positions.{globalOf, endPos, endOf};
 ghost use Rattle.bits.specs.Writes.{put, putBytes};
 ghost use Rattle.bits.specs.Runs.{fitOf, readNumber, NumberWritten, holdsBytes, bytesAt, BytesWritten, pasted};
@@ -167,6 +167,19 @@ fn copy_in(buf: &mut [u8], from: usize, bytes: &[u8])
     }
 }
 
+// Stores zeros in the buffer, from byte `from` on.
+fn zero_out(buf: &mut [u8], from: usize, count: usize)
+    requires { ⌜ from + count ≤ length (now buf) ⌝ }
+    requires { ⌜ AreBytes (now buf) ⌝ }
+    ensures { λ _. ⌜ now (buf .exit) ≡ put (now (buf .entry)) (8 * from) (8 * count) 0 ⌝ }
+{
+    let mut i = 0;
+    while i < count {
+        buf[from + i] = 0;
+        i += 1;
+    }
+}
+
 fn has_bits(x: u64, w: u64) -> bool
     ensures { λ r. ⌜ r ≡ ltb x (2 ^ w) ⌝ }
 {
@@ -241,11 +254,22 @@ pub fn read_bytes(buf: &[u8], from: Bytes, count: Bytes) -> &[u8]
 
 // Writes a run of whole bytes, and no other byte.
 pub fn write_bytes(buf: &mut [u8], from: Bytes, bytes: &[u8]) -> BytesWrite
-    ensures { λ r. ⌜ BytesWritten (now (buf .entry)) (now (buf .exit)) (from .0) (now (bytes .entry)) r ⌝ }
+    ensures { λ r. ⌜ BytesWritten (now (buf .entry)) (now (buf .exit)) (from .0) (length (now (bytes .entry))) (spelled (now (bytes .entry))) r ⌝ }
 {
     if !holds_bytes(buf, from, Bytes(bytes.len() as u64)) {
         return BytesWrite::Outside;
     }
     copy_in(buf, from.0 as usize, bytes);
+    BytesWrite::Done
+}
+
+// Clears a run of whole bytes, and no other byte.
+pub fn clear_bytes(buf: &mut [u8], from: Bytes, count: Bytes) -> BytesWrite
+    ensures { λ r. ⌜ BytesWritten (now (buf .entry)) (now (buf .exit)) (from .0) (count .0) 0 r ⌝ }
+{
+    if !holds_bytes(buf, from, count) {
+        return BytesWrite::Outside;
+    }
+    zero_out(buf, from.0 as usize, count.0 as usize);
     BytesWrite::Done
 }

@@ -11,6 +11,7 @@ use borrow.Author.Tests.{ltb-true, ltb-false, eqb-true, eqb-false, not-false, lt
 use Rattle.answer.specs.declared.Group.{Group}
 use Rattle.answer.specs.Paper.{accepted, refuse}
 use Rattle.answer.proofs.Laws.{both, not-refused}
+use Rattle.answer.proofs.Tests.{neither, both-hold, one-holds}
 use Rattle.number.specs.Numbers.{maxBits}
 use Rattle.number.proofs.Laws.{max-is, within-max}
 use Rattle.types.specs.declared.BuiltinTypes.{BuiltinTypes}
@@ -25,23 +26,6 @@ use Rattle.field.specs.Fields.{inferRepr, reprOf, argOf, noBytes, inferD
 use Rattle.field.specs.Sound.{Sound}
 use Rattle.types.proofs.Laws.{same-type, other-type}
 use Rattle.field.proofs.Laws.{infer-slice, infer-number}
-
--- ---- two tests joined
-
--- not one or the other: neither holds, as past field 1
-neither : (a b : Bool) → (a || b) ≡ false → (a ≡ false) × (b ≡ false)
-neither true b e = (e, cc)
-neither false b e = (refl, e)
-
--- one and the other: both hold, as of the byte slice that passes field 2
-both-hold : (a b : Bool) → (a && b) ≡ true → (a ≡ true) × (b ≡ true)
-both-hold true b e = (refl, e)
-both-hold false b e = (e, cc)
-
--- not neither: one holds, as of the two ways past field 2
-one-holds : (a b : Bool) → (not a && not b) ≡ false → (a ≡ true) ⊎ (b ≡ true)
-one-holds true b e = inl refl
-one-holds false b e = inr (not-false b e)
 
 -- ---- the two kinds of field
 

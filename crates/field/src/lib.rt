@@ -12,8 +12,8 @@ ghost use mathlib.Core.Path.{_≡_};
 ghost use Rattle.answer.specs.declared.Group.{Group};
 ghost use Rattle.answer.specs.Paper.{fieldNumber, paper, refuse as refusedIf};
 ghost use Rattle.number.specs.Numbers.{valueOf};
-ghost use Rattle.types.specs.Types.{sameType, isSlice, isBoolType};
-ghost use Rattle.field.specs.Fields.{inferRepr, reprOf, argOf, inferDefault, defaultOf, fixedOf, genOf, badWidth, badRepr, badArg, isBool, badBool, badBytes, over, badNumber, fixedBytes, valueCheck, defaultCheck, fieldCheck, newField, fieldAnswer, reprBytes, writeGuard};
+ghost use Rattle.types.specs.Types.{isBoolType};
+ghost use Rattle.field.specs.Fields.{inferRepr, reprOf, argOf, inferDefault, defaultOf, fixedOf, genOf, badWidth, badRepr, badArg, isBool, badBool, badBytes, over, badNumber, fixedBytes, valueCheck, defaultCheck, fieldCheck, fieldOf, newField, fieldAnswer, reprBytes, writeGuard};
 
 // A stretch of bytes in the block of a field.
 pub struct Span {
@@ -110,7 +110,7 @@ fn arg_or_repr(repr: BuiltinTypes, arg: DefinedArg) -> Arg
 fn infer_default_val(repr: BuiltinTypes) -> DefaultVal
     ensures { λ r. ⌜ r ≡ inferDefault repr ⌝ }
 {
-    if is_slice(repr) {
+    if repr.is_slice() {
         return DefaultVal::Bytes(Span { at: 0, len: 0 });
     }
     DefaultVal::Num(0)
@@ -145,22 +145,10 @@ fn is_generated(generate: DefinedGen) -> bool
 
 // ---- field 1 to 7, a test each
 
-fn same_type(t: BuiltinTypes, u: BuiltinTypes) -> bool
-    ensures { λ r. ⌜ r ≡ sameType t u ⌝ }
-{
-    t.code() == u.code()
-}
-
-fn is_slice(t: BuiltinTypes) -> bool
-    ensures { λ r. ⌜ r ≡ isSlice t ⌝ }
-{
-    same_type(t, BuiltinTypes::ByteSlice)
-}
-
 fn is_bool_type(t: BuiltinTypes) -> bool
     ensures { λ r. ⌜ r ≡ isBoolType t ⌝ }
 {
-    same_type(t, BuiltinTypes::Bool)
+    t.same_type(BuiltinTypes::Bool)
 }
 
 // Field 1: a width that no field may have.
@@ -174,7 +162,7 @@ fn bad_width(bit: Bits) -> bool
 fn bad_repr(bit: Bits, repr: BuiltinTypes) -> bool
     ensures { λ r. ⌜ r ≡ badRepr (bit .0) repr ⌝ }
 {
-    !same_type(repr, infer_repr(bit)) & !(is_slice(repr) & (8 < bit.0) & bit.is_whole_bytes())
+    !repr.same_type(infer_repr(bit)) & !(repr.is_slice() & (8 < bit.0) & bit.is_whole_bytes())
 }
 
 // Field 3: neither the repr, nor bool on 1 bit, nor code.
@@ -182,7 +170,7 @@ fn bad_arg(bit: Bits, repr: BuiltinTypes, arg: Arg) -> bool
     ensures { λ r. ⌜ r ≡ badArg (bit .0) repr arg ⌝ }
 {
     match arg {
-        Arg::BuiltinTypes(t) => !same_type(t, repr) & !(is_bool_type(t) & (bit.0 == 1)),
+        Arg::BuiltinTypes(t) => !t.same_type(repr) & !(is_bool_type(t) & (bit.0 == 1)),
         Arg::Code => false,
     }
 }
@@ -265,7 +253,7 @@ fn check_value(place: usize, bit: Bits, repr: BuiltinTypes, arg: Arg, d: Default
     if is_bool(arg) {
         return refuse(bad_bool(d), FieldFault::BoolDefaultNotZeroOrOne, place);
     }
-    if is_slice(repr) {
+    if repr.is_slice() {
         return refuse(
             bad_bytes(bit, d),
             FieldFault::SliceDefaultNotItsBytes,
@@ -358,15 +346,28 @@ impl Field {
         if let Verdict::Refused(reason) = v {
             return NewField::Refused(reason);
         }
+        NewField::Is(Field::resolved(bit, repr, arg, default, generate))
+    }
+
+    // Every absent item replaced by what it stands for; nothing is checked.
+    pub fn resolved(
+        bit: Bits,
+        repr: DefinedRepr,
+        arg: DefinedArg,
+        default: DefinedDefault,
+        generate: DefinedGen,
+    ) -> Field
+        ensures { λ r. ⌜ r ≡ fieldOf (bit .0) repr arg default generate ⌝ }
+    {
         let t = repr_or_inferred(bit, repr);
-        NewField::Is(Field {
+        Field {
             bit,
             repr: t,
             arg: arg_or_repr(t, arg),
             default: default_or_zero(t, default),
             generate: is_generated(generate),
             fixed: is_fixed(default),
-        })
+        }
     }
 
     // Whether a write to the field has to be guarded.

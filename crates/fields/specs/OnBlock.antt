@@ -13,7 +13,7 @@ use Rattle.field.specs.declared.DefinedArg.{DefinedArg}
 use Rattle.field.specs.declared.DefinedDefault.{DefinedDefault}
 use Rattle.field.specs.declared.DefinedGen.{DefinedGen}
 use Rattle.field.specs.declared.Field.{Field}
-use Rattle.field.specs.Fields.{fieldCheck, newField}
+use Rattle.field.specs.Fields.{fieldCheck, fieldOf, newField}
 
 -- 66..70 bits
 abbrev pub bitsIn : List ℕ → ℕ
@@ -45,6 +45,10 @@ defaultIn b = cond (eqb (byte b 73) 0) DefinedDefault.Absent (DefinedDefault.Giv
 -- field 1 to 7 of a block, with this place
 abbrev pub blockCheck : List ℕ → ℕ → Check
 blockCheck b place = fieldCheck place (bitsIn b) (reprIn b) (argIn b) (defaultIn b)
+
+-- the items of a block with every absent one resolved, checked or not
+abbrev pub resolvedIn : List ℕ → Field
+resolvedIn b = fieldOf (bitsIn b) (reprIn b) (argIn b) (defaultIn b) (genIn b)
 
 -- the field of a block, or the refusal with this place
 abbrev pub fieldIn : List ℕ → ℕ → Answer Field

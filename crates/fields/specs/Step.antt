@@ -4,8 +4,7 @@ use Prim.Native.Nat.{ℕ}
 use Rattle.answer.specs.Paper.{Check, first}
 use Rattle.sheet.specs.Blocks.{blockAt, fieldCount}
 use Rattle.field.specs.declared.Field.{Field}
-use Rattle.field.specs.Fields.{fieldOf}
-use Rattle.fields.specs.OnBlock.{bitsIn, reprIn, argIn, defaultIn, genIn, blockCheck}
+use Rattle.fields.specs.OnBlock.{blockCheck, resolvedIn}
 
 -- all F blocks in order; of a sheet that passes step 1 they are the first blocks
 abbrev pub fieldsCheck : List ℕ → Check
@@ -13,4 +12,4 @@ fieldsCheck s = first (λ i. blockCheck (blockAt s i) i) (fieldCount s)
 
 -- the field of F block i, with every item resolved
 abbrev pub fieldAt : List ℕ → ℕ → Field
-fieldAt s i = let b = blockAt s i in fieldOf (bitsIn b) (reprIn b) (argIn b) (defaultIn b) (genIn b)
+fieldAt s i = resolvedIn (blockAt s i)

@@ -16,10 +16,11 @@ use octets::byte_at;
 use types::Arg;
 use types::BuiltinTypes;
 ghost use mathlib.Core.Path.{_≡_};
+ghost use Prim.Native.Nat.{_^_, _<_};
 ghost use Rattle.answer.specs.Paper.{paper};
 ghost use Rattle.types.specs.Types.{typeOf};
 ghost use Rattle.field.specs.Fields.{fieldAnswer};
-ghost use Rattle.fields.specs.OnBlock.{bitsIn, reprIn, argIn, genIn, valueIn, defaultIn, blockCheck, fieldIn};
+ghost use Rattle.fields.specs.OnBlock.{bitsIn, reprIn, argIn, genIn, valueIn, defaultIn, blockCheck, resolvedIn, fieldIn};
 ghost use Rattle.fields.specs.Step.{fieldsCheck};
 
 fn type_of(code: u8) -> BuiltinTypes
@@ -36,7 +37,7 @@ fn type_of(code: u8) -> BuiltinTypes
 }
 
 fn bits_in(b: &[u8]) -> Bits
-    ensures { λ r. ⌜ r .0 ≡ bitsIn (now (b .entry)) ⌝ }
+    ensures { λ r. ⌜ (r .0 ≡ bitsIn (now (b .entry))) × (r .0 < 2 ^ 32) ⌝ }
 {
     Bits(be32(b, 66) as u64)
 }
@@ -112,6 +113,13 @@ pub fn from_block(b: &[u8], place: usize) -> NewField
         default_in(b),
         gen_in(b),
     )
+}
+
+// The items of an F block with every absent one resolved; nothing is checked.
+pub fn resolved(b: &[u8]) -> Field
+    ensures { λ r. ⌜ (r ≡ resolvedIn (now (b .entry))) × (r .bit .0 < 2 ^ 32) ⌝ }
+{
+    Field::resolved(bits_in(b), repr_in(b), arg_in(b), default_in(b), gen_in(b))
 }
 
 // Field 1 to 7 of an F block; a refusal has the place given.

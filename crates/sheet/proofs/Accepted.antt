@@ -15,6 +15,7 @@ use borrow.Author.Tests.{not-false, eqb-true, eq-eqb, le-ltb, ltb-false, lt-leb,
 use Rattle.answer.specs.declared.Group.{Group}
 use Rattle.answer.specs.Paper.{accepted}
 use Rattle.answer.proofs.Laws.{both, not-refused, each-passed, all-passed}
+use Rattle.answer.proofs.Tests.{never-both}
 use Rattle.octets.specs.Octets.{byte, be}
 use Rattle.octets.specs.Ones.{checkHolds}
 use Rattle.sheet.specs.declared.Counts.{Counts}
@@ -269,11 +270,6 @@ module _ (s : List ℕ) where
       last (inl q) before = rw (← q, e) (omega arith)
       last (inr l) before = omega (arith, before l e)
 
-both-no : (p q : Bool) → (p ≡ true → q ≡ true → ⊥) → (p && q) ≡ false
-both-no true true h = absurd (h refl refl)
-both-no true false h = refl
-both-no false q h = refl
-
 module _ (s : List ℕ) (a : Accepted s) where
   -- what stands before an F block and before an L block
   no-l-before : (i : ℕ) → i < fieldCount s → count isL s i ≡ 0
@@ -305,7 +301,7 @@ module _ (s : List ℕ) (a : Accepted s) where
   slot-free i h = go (eqb (kindOf (blockAt s i)) 76) refl
     where
       other : (j : ℕ) → j < i → kindOf (blockAt s i) ≡ 76 → isSlot (byte (blockAt s i) 66) (blockAt s j) ≡ false
-      other j l k = both-no (eqb (kindOf (blockAt s j)) 76) (eqb (byte (blockAt s j) 66) (byte (blockAt s i) 66)) (λ p q. a .one-each j i l h (eqb-true _ _ p) k (eqb-true _ _ q))
+      other j l k = never-both (eqb (kindOf (blockAt s j)) 76) (eqb (byte (blockAt s j) 66) (byte (blockAt s i) 66)) (λ p q. a .one-each j i l h (eqb-true _ _ p) k (eqb-true _ _ q))
 
       go : (isl : Bool) → eqb (kindOf (blockAt s i)) 76 ≡ isl → slotBefore s i ≡ false
       go false e = rw e

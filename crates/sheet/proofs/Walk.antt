@@ -1,5 +1,5 @@
--- Laws of the first index at which a test holds: where the walk begins, one index further, where it is found, and where it is not. Assumes nothing.
-use mathlib.Core.Path.{_≡_, refl}
+-- Laws of the first index at which a test holds: where the walk begins, one index further, where it is found, and what that tells. Assumes nothing.
+use mathlib.Core.Path.{_≡_, refl, _∙_}
 use mathlib.Core.Bool.{Bool, true, false, cond}
 use mathlib.Core.Logic.{_⊎_, inl, inr, ⊎-elim}
 use mathlib.Core.Option.{Option, none, some}
@@ -44,3 +44,15 @@ module _ (test : ℕ → Bool) where
   unfolding firstWhere
   where-nothing zero h = refl
   where-nothing (suc n) h = rw (where-nothing n (λ i l. h i (omega arith)), h n (omega arith))
+
+  -- what is found is the first index at which it holds
+  pub where-found : (n i : ℕ) → firstWhere test n ≡ some i → (i < n) × (test i ≡ true) × (firstWhere test i ≡ none)
+  unfolding firstWhere
+  where-found zero i e = absurd (let z : _≡_ {A = ℕ} 0 1 = cc in omega arith)
+  where-found (suc n) i e = last (firstWhere test n) (test n) refl refl e (where-found n i)
+    where
+      last : (found : Option ℕ) (b : Bool) → firstWhere test n ≡ found → test n ≡ b → orElse found (cond b (some n) none) ≡ some i
+          → (firstWhere test n ≡ some i → (i < n) × (test i ≡ true) × (firstWhere test i ≡ none)) → (i < suc n) × (test i ≡ true) × (firstWhere test i ≡ none)
+      last (some k) b p q r before = let here = before (p ∙ r) in (omega (arith, here .0), here .1, here .2)
+      last none true p q r before = let at : n ≡ i = cc in (omega arith, rw (← at) q, rw (← at) p)
+      last none false p q r before = absurd (let z : _≡_ {A = ℕ} 0 1 = cc in omega arith)

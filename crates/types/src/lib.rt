@@ -5,7 +5,7 @@ use octets::part;
 use octets::same_bytes;
 ghost use mathlib.Core.Path.{_≡_};
 ghost use Rattle.octets.specs.Octets.{same};
-ghost use Rattle.types.specs.Types.{codeOf, argCodeOf, typeName, typeNameOf, typeFrom, typeAnswer};
+ghost use Rattle.types.specs.Types.{codeOf, argCodeOf, sameType, isSlice, typeName, typeNameOf, typeFrom, typeAnswer};
 
 pub enum BuiltinTypes {
     U8,
@@ -47,6 +47,18 @@ impl BuiltinTypes {
             BuiltinTypes::ByteSlice => 5,
             BuiltinTypes::Bool => 6,
         }
+    }
+
+    pub fn same_type(self, other: BuiltinTypes) -> bool
+        ensures { λ r. ⌜ r ≡ sameType self other ⌝ }
+    {
+        self.code() == other.code()
+    }
+
+    pub fn is_slice(self) -> bool
+        ensures { λ r. ⌜ r ≡ isSlice self ⌝ }
+    {
+        self.same_type(BuiltinTypes::ByteSlice)
     }
 
     pub fn to_string(self) -> TypeName

@@ -14,7 +14,7 @@ returns : tie.Need-returns
 returns c =
     let a = c .before .before .before .before .before .args in
     record {
-      answer = sym (bytes-outside (a .buf .now) (a .from .0) (a .bytes .now) (sym (c .before .holds-bytes .ensures) ∙ not-true _ (c .if1 .taken)));
+      answer = sym (bytes-outside (a .buf .now) (a .from .0) (length (a .bytes .now)) (sym (c .before .holds-bytes .ensures) ∙ not-true _ (c .if1 .taken)));
       bytes = refl;
     }
 
@@ -32,7 +32,7 @@ returns-2 c =
     let at-copy = c .before .before in
     let at-test = at-copy .before .before in
     let a = at-test .before .before .before .before .before .args in
-    record { answer = sym (bytes-done (a .buf .now) (a .from .0) (a .bytes .now) (within at-test)); bytes = at-copy .copy-in .ensures }
+    record { answer = sym (bytes-done (a .buf .now) (a .from .0) (length (a .bytes .now)) (within at-test)); bytes = at-copy .copy-in .ensures }
 
 pub write-bytes-spec : {M : Type 1} → statement M
 write-bytes-spec =

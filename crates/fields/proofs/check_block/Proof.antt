@@ -10,7 +10,7 @@ returns c =
       c .before .default-in .ensures,
       c .before .before .arg-in .ensures,
       c .before .before .before .repr-in .ensures,
-      c .before .before .before .before .bits-in .ensures,
+      c .before .before .before .before .bits-in .ensures .0,
     )
 
 pub check-block-spec : {M : Type 1} → statement M

@@ -11,7 +11,7 @@ returns c =
       c .before .before .default-in .ensures,
       c .before .before .before .arg-in .ensures,
       c .before .before .before .before .repr-in .ensures,
-      c .before .before .before .before .before .bits-in .ensures,
+      c .before .before .before .before .before .bits-in .ensures .0,
     )
 
 pub from-block-spec : {M : Type 1} → statement M

@@ -1,4 +1,4 @@
--- `Field::new_at` meets its contract: a refusal of the items stands; past them each item of the field is what its call ensures. Assumes nothing.
+-- `Field::new_at` meets its contract: a refusal of the items stands; past them the field is the items resolved. Assumes nothing.
 use mathlib.Core.Path.{sym, ap, _∙_}
 use borrow.Author.Needs.{needs}
 use Rattle.answer.specs.Paper.{paper}
@@ -11,27 +11,9 @@ returns c = sym (stand _ (sym (c .before .before .before .check-items .ensures) 
 
 returns-2 : tie.Need-returns-2
 returns-2 c =
-    go
-    (passed (c .before .before .before .before .before .enum-told .given .1) (c .before .before .before .before .before .before .before .check-items .ensures))
-    (rw (
-      c .is-fixed .ensures,
-      c .before .is-generated .ensures,
-      c .before .before .default-or-zero .ensures,
-      c .before .before .before .arg-or-repr .ensures,
-      c .before .before .before .before .repr-or-inferred .ensures,
-    ))
+    go (passed (c .before .enum-told .given .1) (c .before .before .before .check-items .ensures)) (rw (c .resolved .ensures))
 
 pub new-at-spec : {M : Type 1} → statement M
 new-at-spec =
     tie.close
-    (tie.spec
-    (λ c κs. search needs)
-    (λ c. search needs)
-    returns
-    (λ c. search needs)
-    (λ c κs. search needs)
-    (λ c κs. search needs)
-    (λ c κs. search needs)
-    (λ c κs. search needs)
-    (λ c κs. search needs)
-    returns-2)
+    (tie.spec (λ c κs. search needs) (λ c. search needs) returns (λ c. search needs) (λ c κs. search needs) returns-2)

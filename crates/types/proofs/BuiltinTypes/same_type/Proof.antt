@@ -1,7 +1,7 @@
--- `same_type` meets its contract: the codes that the calls ensure, compared. Assumes nothing.
+-- `BuiltinTypes::same_type` meets its contract: the codes that the calls ensure, compared. Assumes nothing.
 use borrow.Author.Needs.{needs}
-use Rattle.field.proofs.same_type.Statement.{statement}
-use Rattle.field.proofs.same_type.Tie as tie
+use Rattle.types.proofs.BuiltinTypes.same_type.Statement.{statement}
+use Rattle.types.proofs.BuiltinTypes.same_type.Tie as tie
 
 returns : tie.Need-returns
 returns c = rw (c .code2 .ensures, c .before .code .ensures)

@@ -1,0 +1,58 @@
+-- Step 3 in the cases that `Header::new` meets, and what a field that passed it holds. Assumes nothing.
+use mathlib.Core.Path.{_≡_}
+use mathlib.Core.Bool.{Bool, true, false}
+use mathlib.Core.List.{List}
+use Prim.Native.Nat.{ℕ, _+_, _/_, _%_, _≤_, _<_}
+use lib.Dec.{eqb}
+use borrow.Author.Tests.{ltb-false}
+use Rattle.answer.specs.declared.Group.{Group}
+use Rattle.answer.specs.Paper.{gives, refused, accepted, refuse, first}
+use Rattle.answer.proofs.Laws.{both, not-refused, stand, first-stop}
+use Rattle.number.specs.Numbers.{maxBytes}
+use Rattle.sheet.specs.Blocks.{blockCount, fieldCount}
+use Rattle.field.specs.declared.Field.{Field}
+use Rattle.field.specs.Sound.{widthOf}
+use Rattle.header.specs.Names.{isReserved}
+use Rattle.header.specs.Places.{bitsOf}
+use Rattle.header.specs.Step.{overEight, offBoundary, faultsOf, fieldFault, headerCheck, headerOf, newHeader}
+
+-- ---- one field: what its five tests say where none refuses
+
+pub record Passed (used : Bool) (name : List ℕ) (start : ℕ) (f : Field) : Type 0 where
+  pub new-name : used ≡ false
+  pub free-name : isReserved name ≡ false
+  pub eight : overEight start (widthOf f) ≡ false
+  pub boundary : offBoundary start (f .repr) ≡ false
+  pub short : (start + widthOf f) / 8 ≤ maxBytes
+
+pub passed-all : (used : Bool) (name : List ℕ) (start : ℕ) (f : Field) (i : ℕ) → faultsOf used name start f i ≡ accepted → Passed used name start f
+unfolding faultsOf
+passed-all used name start f i e =
+    let one = both _ _ e in
+    let two = both _ _ (one .1) in
+    let three = both _ _ (two .1) in
+    let four = both _ _ (three .1) in
+    record {
+      new-name = not-refused _ Group.Header 1 i (one .0);
+      free-name = not-refused _ Group.Header 2 i (two .0);
+      eight = not-refused _ Group.Header 3 i (three .0);
+      boundary = not-refused _ Group.Header 4 i (four .0);
+      short = ltb-false maxBytes _ (not-refused _ Group.Header 5 i (four .1));
+    }
+
+-- ---- all fields
+
+module _ (s : List ℕ) where
+  -- the first field that is refused
+  pub new-stops : (i : ℕ) {g : Group} {n at : ℕ} → i < fieldCount s → first (fieldFault s) i ≡ accepted → fieldFault s i ≡ refused g n at → newHeader s ≡ refused g n at
+  unfolding headerCheck
+  new-stops i h before e = stand _ (stand _ (first-stop (fieldFault s) i (fieldCount s) h before e))
+
+  -- past all fields header 6 decides
+  pub new-odd : first (fieldFault s) (fieldCount s) ≡ accepted → eqb (bitsOf s % 8) 0 ≡ false → newHeader s ≡ refused Group.Header 6 (blockCount s)
+  unfolding headerCheck
+  new-odd all e = rw (all, e)
+
+  pub new-whole : first (fieldFault s) (fieldCount s) ≡ accepted → eqb (bitsOf s % 8) 0 ≡ true → newHeader s ≡ gives (headerOf s)
+  unfolding headerCheck
+  new-whole all e = rw (all, e)

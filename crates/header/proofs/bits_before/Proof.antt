@@ -1,0 +1,50 @@
+-- `bits_before` meets its contract. The loop's invariant: the sum is where field i starts, and 64 widths of 32 bits do not overflow it. Assumes nothing.
+use mathlib.Core.Path.{_≡_, sym, ap, _∙_}
+use Prim.Native.Nat.{_+_, _-_, _*_, _^_, _≤_}
+use native.Mathlib.Omega.{arith}
+use borrow.Author.Needs.{needs}
+use Rattle.field.specs.declared.Field.{Field}
+use Rattle.field.specs.Sound.{widthOf}
+use Rattle.layout.proofs.Listed.{position-none, position-more}
+use Rattle.header.specs.Places.{headerField, startAt}
+use Rattle.header.proofs.bits_before.Statement.{statement}
+use Rattle.header.proofs.bits_before.Tie as tie
+
+abbrev Inv-loop : tie.InvT-loop
+Inv-loop s n sum₀ i₀ sum i = (i ≤ n) × (sum ≡ startAt s i) × (sum ≤ i * 2 ^ 32)
+
+abbrev μ-loop : tie.MeasureT-loop
+μ-loop s n sum₀ i₀ sum i = n - i
+
+loop-holds : tie.Need-loop-holds Inv-loop μ-loop
+loop-holds c = (omega arith, sym (position-none _), omega arith)
+
+loop-again : tie.Need-loop-again Inv-loop μ-loop
+loop-again c =
+    let k = c .before .before .before in
+    let s = k .before .before .args .s .now in
+    let f = c .before .field-at .ensures in (
+      omega arith,
+      rw (k .loop .inv .1, f .0) (sym (position-more (headerField s) (k .loop .i))),
+      omega (arith, f .1),
+    )
+
+returns : tie.Need-returns Inv-loop μ-loop
+returns c =
+    let k = c .before in
+    let all : k .loop .i ≡ k .before .before .args .n = omega arith in
+    k .loop .inv .1 ∙ ap (startAt _) all
+
+pub bits-before-spec : {M : Type 1} → statement M
+bits-before-spec =
+    tie.close
+    (tie.spec
+    Inv-loop
+    μ-loop
+    loop-holds
+    (λ c κs. search needs)
+    (λ c. omega (arith, c .before .field-at .ensures .1))
+    (λ c. omega arith)
+    (λ c. omega arith)
+    loop-again
+    returns)

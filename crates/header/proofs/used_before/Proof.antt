@@ -1,0 +1,19 @@
+-- `used_before` meets its contract: by what the walk over the fields before found. Assumes nothing.
+use mathlib.Core.Path.{sym, ap, _∙_}
+use borrow.Author.Needs.{needs}
+use Rattle.sheet.specs.Sheet.{isSome}
+use Rattle.header.specs.declared.FieldIndex.{FieldIndex}
+use Rattle.header.specs.Names.{indexOf}
+use Rattle.header.proofs.used_before.Statement.{statement}
+use Rattle.header.proofs.used_before.Tie as tie
+
+returns : tie.Need-returns
+returns c = let found = c .before .before in rw (← (found .named-among .ensures), c .enum-told .given .1)
+
+returns-2 : tie.Need-returns-2
+returns-2 c = let found = c .before .before in rw (← (found .named-among .ensures), c .enum-told2 .given .1)
+
+pub used-before-spec : {M : Type 1} → statement M
+used-before-spec =
+    tie.close
+    (tie.spec (λ c κs. search needs) (λ c. search needs) (λ c. search needs) returns returns-2)

@@ -1,0 +1,198 @@
+// Headers: the names of a sheet's fields, where each field starts, and step 3, as the Rust's `Header::new` has it.
+// Nothing is kept beside the sheet: a name is looked up, and a start summed, by a walk over the F blocks.
+use answer::HeaderFault;
+use answer::Refusal;
+use answer::Verdict;
+use bits::BitPos;
+use blocks::name;
+use field::Field;
+use number::Bits;
+use number::Bytes;
+use octets::same_bytes;
+use types::BuiltinTypes;
+ghost use mathlib.Core.Path.{_≡_};
+ghost use Prim.Native.Nat.{_+_, _≤_, _<_, _^_};
+ghost use Rattle.answer.specs.declared.Group.{Group};
+ghost use Rattle.answer.specs.Paper.{headerNumber, paper, refuse as refusedIf};
+ghost use Rattle.bits.specs.Positions.{globalOf};
+ghost use Rattle.sheet.specs.Sheet.{isSome};
+ghost use Rattle.fields.specs.Step.{fieldAt};
+ghost use Rattle.header.specs.Names.{namedAmong, fieldNamed, indexOf, isReserved};
+ghost use Rattle.header.specs.Places.{startAt, startOf, startIn};
+ghost use Rattle.header.specs.Step.{overEight, offBoundary, tooLong, faultsOf, newHeader, headerAnswer};
+
+// The field that a name means, if there is one.
+pub enum FieldIndex {
+    At(usize),
+    None,
+}
+
+// Where a field starts, if there is such a field.
+pub enum FieldStart {
+    At(BitPos),
+    None,
+}
+
+// How many fields a header has, and how long it is.
+pub struct Header {
+    pub fields: usize,
+    pub len: Bytes,
+}
+
+pub enum NewHeader {
+    Is(Header),
+    Refused(Refusal),
+}
+
+// ---- names
+
+// The first of the first n fields that has a name.
+fn named_among(s: &[u8], wanted: &[u8], n: usize) -> FieldIndex
+    ensures { λ r. ⌜ indexOf r ≡ namedAmong (now (s .entry)) (now (wanted .entry)) n ⌝ }
+{
+    let mut i = 0;
+    while i < n {
+        if same_bytes(name(sheet::block(s, i)), wanted) {
+            return FieldIndex::At(i);
+        }
+        i += 1;
+    }
+    FieldIndex::None
+}
+
+// The field of a name: the first that has it.
+pub fn field_named(s: &[u8], wanted: &[u8]) -> FieldIndex
+    ensures { λ r. ⌜ indexOf r ≡ fieldNamed (now (s .entry)) (now (wanted .entry)) ⌝ }
+{
+    named_among(s, wanted, sheet::block_counts(s).fields)
+}
+
+// Whether one of the first i fields has the name.
+fn used_before(s: &[u8], wanted: &[u8], i: usize) -> bool
+    ensures { λ r. ⌜ r ≡ isSome (namedAmong (now (s .entry)) (now (wanted .entry)) i) ⌝ }
+{
+    match named_among(s, wanted, i) {
+        FieldIndex::At(_) => true,
+        FieldIndex::None => false,
+    }
+}
+
+fn is_reserved(wanted: &[u8]) -> bool
+    ensures { λ r. ⌜ r ≡ isReserved (now (wanted .entry)) ⌝ }
+{
+    same_bytes(wanted, b"type")
+}
+
+// ---- positions
+
+// The field of F block i.
+fn field_at(s: &[u8], i: usize) -> Field
+    ensures { λ r. ⌜ (r ≡ fieldAt (now (s .entry)) i) × (r .bit .0 < 2 ^ 32) ⌝ }
+{
+    fields::resolved(sheet::block(s, i))
+}
+
+// The bits of the first n fields together.
+fn bits_before(s: &[u8], n: usize) -> Bits
+    requires { ⌜ n ≤ 64 ⌝ }
+    ensures { λ r. ⌜ r .0 ≡ startAt (now (s .entry)) n ⌝ }
+{
+    let mut sum: u64 = 0;
+    let mut i = 0;
+    while i < n {
+        sum += field_at(s, i).bit.0;
+        i += 1;
+    }
+    Bits(sum)
+}
+
+// Where field i starts.
+pub fn start(s: &[u8], i: usize) -> FieldStart
+    ensures { λ r. ⌜ startIn r ≡ startOf (now (s .entry)) i ⌝ }
+{
+    if (i < 64) & (i < sheet::block_counts(s).fields) {
+        return FieldStart::At(BitPos::new(bits_before(s, i)));
+    }
+    FieldStart::None
+}
+
+// ---- header 1 to 5, a test each
+
+// Header 3: narrow enough for a number, but spread over more than 8 bytes.
+fn over_eight(start: BitPos, bit: Bits) -> bool
+    ensures { λ r. ⌜ r ≡ overEight (globalOf start) (bit .0) ⌝ }
+{
+    (bit.0 <= 64) & (8 < start.touched(bit).0)
+}
+
+// Header 4: a byte slice off a byte boundary.
+fn off_boundary(start: BitPos, repr: BuiltinTypes) -> bool
+    ensures { λ r. ⌜ r ≡ offBoundary (globalOf start) repr ⌝ }
+{
+    repr.is_slice() & (start.bit_pos() != 0)
+}
+
+// Header 5: longer than a header may be; a byte that is not full is not counted.
+fn too_long(bits: Bits) -> bool
+    ensures { λ r. ⌜ r ≡ tooLong (bits .0) ⌝ }
+{
+    bits.whole_bytes().over_max()
+}
+
+// Field i refused for this reason where the test holds.
+fn refuse(test: bool, fault: HeaderFault, i: usize) -> Verdict
+    ensures { λ r. ⌜ paper r ≡ refusedIf test Group.Header (headerNumber fault) i ⌝ }
+{
+    Verdict::refuse(test, Refusal::Header(fault, i))
+}
+
+// Header 1 to 5 of field i: by whether its name was used before, its name, where it starts and what it is.
+fn field_fault(used: bool, wanted: &[u8], start: Bits, f: Field, i: usize) -> Verdict
+    requires { ⌜ start .0 + f .bit .0 < 2 ^ 64 ⌝ }
+    ensures { λ r. ⌜ paper r ≡ faultsOf used (now (wanted .entry)) (start .0) f i ⌝ }
+{
+    let at = BitPos::new(start);
+    let bit = f.bit;
+    let repr = f.repr;
+    let again = refuse(used, HeaderFault::NameUsedBefore, i);
+    let reserved = refuse(is_reserved(wanted), HeaderFault::NameReserved, i);
+    let spread = refuse(over_eight(at, bit), HeaderFault::TouchesOverEightBytes, i);
+    let off = refuse(off_boundary(at, repr), HeaderFault::SliceOffByteBoundary, i);
+    let long = refuse(
+        too_long(Bits(start.0 + bit.0)),
+        HeaderFault::HeaderTooLong,
+        i,
+    );
+    again.and_then(reserved.and_then(spread.and_then(off.and_then(long))))
+}
+
+impl Header {
+    // Step 3: the header of a sheet's fields, or the refusal.
+    pub fn new(s: &[u8]) -> NewHeader
+        ensures { λ r. ⌜ headerAnswer r ≡ newHeader (now (s .entry)) ⌝ }
+    {
+        let n = sheet::block_counts(s).fields;
+        let mut bits = Bits(0);
+        let mut i = 0;
+        while i < n {
+            let wanted = name(sheet::block(s, i));
+            let f = field_at(s, i);
+            let v = field_fault(used_before(s, wanted, i), wanted, bits, f, i);
+            if let Verdict::Refused(reason) = v {
+                return NewHeader::Refused(reason);
+            }
+            bits = Bits(bits.0 + f.bit.0);
+            i += 1;
+        }
+        if !bits.is_whole_bytes() {
+            return NewHeader::Refused(Refusal::Header(
+                HeaderFault::HeaderNotWholeBytes,
+                s.len() / 512,
+            ));
+        }
+        NewHeader::Is(Header {
+            fields: n,
+            len: bits.whole_bytes(),
+        })
+    }
+}

@@ -1,0 +1,77 @@
+-- A sheet that passed steps 1 to 3: each of its fields can be filled where it starts, and a buffer that is filled field after field is filled.
+-- Assumes nothing.
+use mathlib.Core.Path.{_≡_, refl, sym, ap, _∙_}
+use mathlib.Core.List.{List}
+use Prim.Native.Nat.{ℕ, _+_, _*_, _^_, _≤_, _<_}
+use native.Mathlib.Nat.{le-of-lt}
+use native.Mathlib.Omega.{arith}
+use lib.ListN.{length}
+use lib.Seq.{length-slice}
+use borrow.Author.Tests.{lt-ltb}
+use Rattle.answer.specs.Paper.{accepted}
+use Rattle.answer.proofs.Laws.{both}
+use Rattle.number.specs.Numbers.{maxBytes}
+use Rattle.bits.specs.Writes.{put}
+use Rattle.sheet.specs.Blocks.{blockCount, blockAt, fieldCount}
+use Rattle.sheet.specs.Accepted.{Accepted}
+use Rattle.sheet.specs.Sheet.{sheetCheck}
+use Rattle.sheet.proofs.Accepted.{accepted-is}
+use Rattle.field.specs.Sound.{widthOf}
+use Rattle.fields.specs.Step.{fieldAt, fieldsCheck}
+use Rattle.fields.proofs.Laws.{field-sound}
+use Rattle.layout.specs.Layout.{HeaderField, field, start, width, Filled}
+use Rattle.layout.proofs.Listed.{position-later, length-listed, field-listed, bits-listed, start-listed}
+use Rattle.layout.proofs.Places.{within}
+use Rattle.layout.proofs.Filled.{filled-more}
+use Rattle.header.specs.Places.{defaultNumber, headerField, layoutOf, startAt, bitsOf}
+use Rattle.header.specs.Step.{headerCheck, headerBytes}
+use Rattle.header.proofs.Laid.{laid, good-field, good}
+use Rattle.template.specs.Template.{threeSteps, Fillable}
+use Rattle.template.proofs.Laws.{f-stated, span-inside}
+
+-- a block has 512 bytes
+block-long : (s : List ℕ) (i : ℕ) → i < blockCount s → length (blockAt s i) ≡ 512
+unfolding blockAt
+block-long s i h = rw (lt-ltb i (blockCount s) h) (length-slice (512 * i) (512 * i + 512) s (omega arith) ∙ omega arith)
+
+-- a field filled where it is known to start, with its known width and default
+filled-at : (fs : List HeaderField) (i : ℕ) {b : List ℕ} (c : List ℕ) {s w d : ℕ} → start fs i ≡ s → width fs i ≡ w → (field fs i) .default ≡ d
+    → (field fs i) .default < 2 ^ width fs i → start fs i + width fs i ≤ 8 * length b → Filled fs i b c → Filled fs (i + 1) b (put c s w d)
+filled-at fs i c at wide holds fits room before = rw (← at, ← wide, ← holds) (filled-more fs i refl fits room before)
+
+module _ (s : List ℕ) (ok : threeSteps s ≡ accepted) where
+  steps : (sheetCheck s ≡ accepted) × (fieldsCheck s ≡ accepted) × (headerCheck s ≡ accepted)
+  steps = let two = both (sheetCheck s) _ ok in let three = both (fieldsCheck s) (headerCheck s) (two .1) in (two .0, three .0, three .1)
+
+  -- the header is whole bytes, and few
+  pub whole-bytes : bitsOf s ≡ 8 * headerBytes s
+  whole-bytes = omega (arith, laid s (steps .2) .whole)
+
+  pub few-bytes : headerBytes s ≤ maxBytes
+  few-bytes = laid s (steps .2) .most
+
+  module _ (i : ℕ) (h : i < fieldCount s) where
+    -- its field ends within the header
+    pub ends-within : startAt s i + widthOf (fieldAt s i) ≤ bitsOf s
+    ends-within = position-later (headerField s) i (fieldCount s) h
+
+    pub fillable : (buf : List ℕ) → bitsOf s ≤ 8 * length buf → Fillable buf (blockAt s i) (fieldAt s i) (startAt s i)
+    fillable buf room =
+        let a = accepted-is s .0 (steps .0) in
+        let there : i < blockCount s = omega (arith, a .no-others) in
+        record {
+          sound = field-sound s (steps .1) i h;
+          good = good-field s (steps .1) (steps .2) i h;
+          room = omega (arith, ends-within);
+          inside = λ span e. omega (arith, span-inside (blockAt s i) (f-stated (blockAt s i) (a .f-first i h) (a .laid-out i there)) span e, block-long s i there);
+        }
+
+    -- one field more
+    pub filled-next : {b c : List ℕ} → bitsOf s ≤ 8 * length b → Filled (layoutOf s) i b c
+        → Filled (layoutOf s) (i + 1) b (put c (startAt s i) (widthOf (fieldAt s i)) (defaultNumber (blockAt s i) ((fieldAt s i) .default)))
+    unfolding layoutOf
+    filled-next {b} {c} room before =
+        let is : field (layoutOf s) i ≡ headerField s i = field-listed (headerField s) (fieldCount s) i h in
+        filled-at (layoutOf s) i c (start-listed (headerField s) (fieldCount s) i (le-of-lt h)) (ap (λ (f : HeaderField). f .width) is) (ap (λ (f : HeaderField). f .default) is)
+        (good s (steps .1) (steps .2) .each i (rw (length-listed (headerField s) (fieldCount s)) h) .default-fits)
+        (omega (arith, within (layoutOf s) i, bits-listed (headerField s) (fieldCount s))) before
