@@ -1,9 +1,9 @@
-"""Stored test sheets for steps 1 and 2 of docs/RULES.md.
+"""Stored test sheets for steps 1 to 3 of docs/RULES.md.
 
 The program holds a list of sheets, each with the answer that steps 1 (sheet
-1 to 6) and 2 (field 1 to 7) must give, and writes them to one file, which is
-kept as crates/stored/data/sheets. It is written from the rules, apart from
-the crates: nothing here is taken from them.
+1 to 6), 2 (field 1 to 7) and 3 (header 1 to 6) must give, and writes them to
+one file, which is kept as crates/stored/data/sheets. It states the rules by
+itself and takes nothing from the crates.
 
     python3 tools/stored_sheets OUTFILE     writes the file
     python3 tools/stored_sheets --show N    prints case N, counted from 0
@@ -11,16 +11,24 @@ the crates: nothing here is taken from them.
 
 How the list is made. `answer` states the rules once, in their order. The
 cases state them again: each has its answer written beside it. The program
-stops where the two differ. A case has one of three sources:
+stops where the two differ. A case has one of these sources:
 
     hand      the answer is written beside the case
     table     the answer is read from a table written by hand
-    computed  the answer comes from `answer` alone (the changed bytes)
+    computed  the answer comes from `answer` alone (the changed bytes and the
+              mixed headers)
+
+The cases of steps 1 and 2 state the answer of these two steps. Where they
+state that both accept the sheet, the source is `hand to step 2` or `table to
+step 2`, and what step 3 says of the sheet comes from `answer`. The cases of
+step 3 state the answer of all three steps, and many of them the starts of
+the fields, the fields found by name, or the template.
 
 The list is the same on every run. It takes no clock and no outside chance.
 
-The answer is group, number, place. Group 1 is sheet, 2 is field. 0 0 0 is a
-sheet that passes both steps. Later steps may still refuse such a sheet.
+The answer is group, number, place. Group 1 is sheet, 2 is field, 3 is
+header. 0 0 0 is a sheet that passes the three steps. Later steps may still
+refuse such a sheet.
 
 The file is a sequence of records. All numbers are big-endian.
 
@@ -29,13 +37,15 @@ The file is a sequence of records. All numbers are big-endian.
     1  group
     1  number
     1  place
-    2  T, length of the facts, 0 for a refused sheet
+    2  T, length of the facts, 0 for a sheet that step 1 or 2 refuses
     P  the packed sheet
     T  the facts
 
 The packed sheet is a sequence of runs: 2 bytes gap, the number of zero bytes
 before the run; 1 byte n, 1 to 255; n bytes as they are. After the last run
-come zeros up to S.
+come zeros up to S. The n bytes may be zeros too: a gap over 65,535 is
+written as runs of gap 65,535 and one zero byte, each of them 65,536 zeros,
+and then what is left of the gap. Only templates need this.
 
 The facts are
     number of F, of L and of C blocks, 1 byte each;
@@ -47,14 +57,22 @@ The facts are
     bytes; those bytes. An absent default is number 0, or for a byte slice
     bytes of which none are stated;
     for every L block of form 6 its 32 nodes of 11 bytes: kind, left, right,
-    8 bytes number. Nodes past the node count are zero.
+    8 bytes number. Nodes past the node count are zero;
+    for every F block the start of its field, 4 bytes: the sum of the bits of
+    the fields before it;
+    for every block of any kind 1 byte: the index of the first F block of the
+    same name, 255 for none. A block without a name has 255;
+    and if step 3 accepts the sheet, 4 bytes the header's length in bytes; 2
+    bytes Q; Q bytes the template, packed like a sheet. After its last run
+    come zeros up to the header's length.
 """
 
 import sys
 from collections import Counter
 
-from records import RUN, all_cases, answer_name, record
-from rules import ACCEPTED, blocks_of, facts
+from packing import RUN
+from records import all_cases, answer_name, record
+from rules import ACCEPTED, answer, blocks_of, facts
 from selftest import check
 
 
@@ -83,7 +101,7 @@ def show(index):
     for place, block in enumerate(blocks_of(case.sheet)):
         runs = [f"{run.start()}: {run.group().hex()}" for run in RUN.finditer(block)]
         print(f"  block {place}  " + "  ".join(runs))
-    if case.expected == ACCEPTED:
+    if answer(case.sheet, 2) == ACCEPTED:
         print(f"facts: {facts(case.sheet).hex()}")
 
 

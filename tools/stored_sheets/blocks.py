@@ -3,7 +3,7 @@
 import re
 import struct
 
-from rules import BLOCK, BOOL, BYTES, NUMBER, SLICE, U8, ones_complement_sum
+from rules import BLOCK, BOOL, BYTES, CODE, NUMBER, SLICE, U8, ones_complement_sum
 
 
 def sealed(block):
@@ -117,8 +117,12 @@ def spelled(text):
     return b"".join(blocks)
 
 
+def place_name(place):
+    return bytes([33 + place % 94])
+
+
 def plain_block(letter, digit, place):
-    name = bytes([33 + place % 94])
+    name = place_name(place)
     if letter == "F":
         default = dict(bits=1 + place % 64)
         return field(name, **(FIELD_FAULTS[int(digit)] if digit else default))
@@ -130,6 +134,84 @@ def plain_block(letter, digit, place):
 
 
 FULL = "F*64 L0 L1 L2 C*32"
+
+SHAPED_FIELD = re.compile(r"(?:(\w+):)?(\d+)(s?)")
+SHAPED_OTHER = re.compile(r"([LC])([012]?)(?::(\w+))?")
+
+
+def shaped(text):
+    """The sheet of a short text of widths and names, one word to a block.
+
+    A number is a field of that many bits; `s` after it states the repr byte
+    slice, `name:` before it gives the name. Other fields have names of one
+    byte by their places, none of them a small letter. `L0:name` is an L block
+    of slot 0 and form 1, `L0` alone one of form 0, `C:name` a C block. `*9`
+    repeats the word.
+    """
+    blocks = []
+    for word in text.split():
+        word, _, times = word.partition("*")
+        for _ in range(int(times or 1)):
+            blocks.append(shaped_block(word, len(blocks)))
+    return b"".join(blocks)
+
+
+def shaped_block(word, place):
+    other = SHAPED_OTHER.fullmatch(word)
+    if other:
+        letter, slot, name = other.groups()
+        if letter == "C":
+            return condition(name.encode())
+        if name is None:
+            return length(slot=int(slot), form=0)
+        return length(name.encode(), slot=int(slot))
+    name, bits, stated = SHAPED_FIELD.fullmatch(word).groups()
+    return field(name.encode() if name else place_name(place), int(bits),
+                 SLICE if stated else 0)
+
+
+def written(text):
+    """The fields of a text of defaults, one word to a field, named by their places.
+
+    Digits 0 and 1 are a number field, as wide as there are digits, and its
+    default. Dots are a number field without a default. `!` after the digits
+    fixes the default, `?` gives the arg bool, `c` the arg code. `x` with hex
+    digits is a byte slice and its default bytes, `o` with a number is a byte
+    slice of that many bytes without a default.
+    """
+    return b"".join(written_block(word, place_name(place))
+                    for place, word in enumerate(text.split()))
+
+
+def written_block(word, name):
+    if word[0] == "o":
+        return field(name, 8 * int(word[1:]), SLICE)
+    if word[0] == "x":
+        data = bytes.fromhex(word[1:])
+        return field(name, 8 * len(data), SLICE, kind=BYTES, data=data)
+    digits = word.rstrip("!?c")
+    made = dict(arg=BOOL if "?" in word else CODE if "c" in word else 0)
+    if word[0] != ".":
+        made.update(kind=NUMBER, number=int(digits, 2), fixed=int("!" in word))
+    return field(name, len(digits), **made)
+
+
+def written_bits(text):
+    """For each word of such a text the bits that it stands for, as digits."""
+    bits = []
+    for word in text.split():
+        if word[0] == "o":
+            bits.append("00000000" * int(word[1:]))
+        elif word[0] == "x":
+            bits.append("".join(f"{byte:08b}" for byte in bytes.fromhex(word[1:])))
+        else:
+            bits.append(word.rstrip("!?c").replace(".", "0"))
+    return bits
+
+
+def bytes_of_bits(digits):
+    """Each eight digits are a byte, the first digit its most significant bit."""
+    return bytes(int(digits[i:i + 8], 2) for i in range(0, len(digits), 8))
 
 
 def lister_sheet():

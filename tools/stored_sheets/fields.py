@@ -22,12 +22,12 @@ def widths_to_72(cases):
                 title, block = f"{bits} bits, repr {rep}", field(bits=bits, repr=rep)
                 if rep == SLICE and bits in SLICE_WIDTHS:
                     cases.add(title, block, ACCEPTED, "table",
-                              Resolved(bits, 5, 5, 1, 0, 0, 2, 0, b""))
+                              field=Resolved(bits, 5, 5, 1, 0, 0, 2, 0, b""))
                 elif rep in (0, code):
                     guard = 0 if bits in GUARD_FREE or code == SLICE else 1
                     cases.add(title, block, ACCEPTED, "table",
-                              Resolved(bits, code, code, 1, 0, guard,
-                                       2 if code == SLICE else 1, 0, b""))
+                              field=Resolved(bits, code, code, 1, 0, guard,
+                                             2 if code == SLICE else 1, 0, b""))
                 else:
                     cases.add(title, block, (FIELD, 2, 0), "table")
     for bits in range(65, 72):
@@ -225,4 +225,4 @@ def allowed_combinations(cases):
                                         number, stated)
                         codes = f"{rep} {arg} {gen} {kind} {fixed}"
                         cases.add(f"{bits} bits of type {code}, codes {codes}",
-                                  block, ACCEPTED, "table", want)
+                                  block, ACCEPTED, "table", field=want)

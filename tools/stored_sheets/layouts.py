@@ -35,7 +35,7 @@ def lengths_of_sheets(cases):
 
 
 def accepted_sheets(cases):
-    """Sheets of many shapes that pass both steps."""
+    """Sheets of many shapes that pass steps 1 and 2."""
     for text in ("L0", "L1", "L2", "C", "F L0", "F C", "L0 C", "F L0 C", "F*64",
                  "C*32", "F*64 C*32", "L0 L1 L2 C*32", "F*64 L0 L1 L2",
                  "F*63 L2 C*32", "F*2 L1 L0 C*3", "L0 L1 L2", "L0 L2 L1",

@@ -1,24 +1,37 @@
 """All cases in their order, and the records of the file. The format is told in __main__.py."""
 
-import re
 import struct
+import sys
 
 from cases import Cases
 from changes import changed_bytes
 from fields import (
     allowed_combinations, bool_defaults, byte_defaults, misplaced_defaults,
     number_defaults, reprs_and_args, wide_widths, widths_to_72)
+from header_orders import (
+    faults_in_two_fields, places_of_header_faults, step_1_before_step_3,
+    step_2_before_step_3, two_faults_in_one_field)
+from headers import (
+    byte_slices, fields_named_type, many_names, names_of_fields, no_fields, remainders,
+    sums_of_64, sums_of_more, sums_of_two, touched_bytes)
 from layouts import (
     absent_ends, accepted_sheets, c_rules, check_words, f_codes, f_counts, f_numbers,
     flipped_bits, kind_bytes, l_codes, l_numbers, lengths_of_sheets, name_bytes,
     name_lengths, node_rules, operator_rules, range_25, trees, unnamed_bytes)
+from mixed import mixed_headers
 from orders import (
     faults_in_two_blocks, pairs_in_one_field, places_of_field_faults,
     places_of_sheet_2_and_3, places_of_sheet_4_to_6, second_slots, sheet_1_first,
     step_1_before_step_2, two_faults_in_one_block, two_field_faults)
-from rules import ACCEPTED, facts
+from packing import packed
+from rules import ACCEPTED, answer, facts
+from templates import (
+    each_width, kinds_of_numbers, known_headers, long_headers, names_looked_up,
+    neighbours, positions, single_bits, slices_between, starts_and_widths,
+    thirteen_bits, wide_numbers)
 
-SECTIONS = (
+# Sections whose cases state the answer of steps 1 and 2.
+SHEETS_AND_FIELDS = (
     lengths_of_sheets, accepted_sheets, check_words, flipped_bits, kind_bytes,
     name_lengths, name_bytes, unnamed_bytes, f_codes, f_numbers, f_counts, l_codes,
     l_numbers, trees, node_rules, operator_rules, c_rules, range_25, absent_ends,
@@ -29,45 +42,35 @@ SECTIONS = (
     wide_widths, reprs_and_args, number_defaults, bool_defaults, byte_defaults,
     misplaced_defaults, allowed_combinations, changed_bytes)
 
+# Sections whose cases state the answer of steps 1 to 3.
+HEADERS = (
+    names_of_fields, fields_named_type, many_names, touched_bytes, byte_slices,
+    sums_of_two, sums_of_more, sums_of_64, remainders, no_fields,
+    places_of_header_faults, two_faults_in_one_field, faults_in_two_fields,
+    step_2_before_step_3, step_1_before_step_3,
+    known_headers, thirteen_bits, single_bits, neighbours, slices_between,
+    wide_numbers, each_width, kinds_of_numbers, starts_and_widths, long_headers,
+    positions, names_looked_up, mixed_headers)
+
 
 def all_cases():
     cases = Cases()
-    for section in SECTIONS:
-        section(cases)
+    for steps, sections in ((2, SHEETS_AND_FIELDS), (3, HEADERS)):
+        cases.steps = steps
+        for section in sections:
+            section(cases)
     return cases
-
-
-# A run begins and ends with a byte that is not zero and holds no stretch of
-# four zeros.
-RUN = re.compile(rb"[^\0](?:\0{0,3}[^\0])*", re.DOTALL)
-
-
-def packed(sheet):
-    out, done = b"", 0
-    for run in RUN.finditer(sheet):
-        for start in range(run.start(), run.end(), 255):
-            part = sheet[start:min(start + 255, run.end())]
-            out += struct.pack(">HB", start - done, len(part)) + part
-            done = start + len(part)
-    return out
-
-
-def unpacked(pack, size):
-    out, at = b"", 0
-    while at < len(pack):
-        gap, count = struct.unpack_from(">HB", pack, at)
-        out += bytes(gap) + pack[at + 3:at + 3 + count]
-        at += 3 + count
-    return out.ljust(size, b"\0")
 
 
 def record(case):
     pack = packed(case.sheet)
-    known = facts(case.sheet) if case.expected == ACCEPTED else b""
+    known = facts(case.sheet) if answer(case.sheet, 2) == ACCEPTED else b""
+    if len(known) > 65_535:
+        sys.exit(f"the facts of case ({case.title}) do not fit")
     sizes = len(pack), len(case.sheet)
     return struct.pack(">HHBBBH", *sizes, *case.expected, len(known)) + pack + known
 
 
 def answer_name(expected):
     group, number, _ = expected
-    return ("accepted", f"sheet {number}", f"field {number}")[group]
+    return ("accepted", f"sheet {number}", f"field {number}", f"header {number}")[group]

@@ -1,4 +1,4 @@
-"""The rules of a sheet and of its fields, steps 1 and 2, and what an accepted sheet holds.
+"""The rules of a sheet, its fields and its header, steps 1 to 3, and what a sheet holds.
 
 Stated once, in the order of docs/RULES.md.
 """
@@ -6,11 +6,14 @@ Stated once, in the order of docs/RULES.md.
 import struct
 from collections import namedtuple
 
+from packing import packed
+
 BLOCK = 512
 MOST_BLOCKS = 99
 MOST_BITS = 33_554_424
+MOST_BYTES = 4_194_303
 MOST_NUMBER = 2 ** 64 - 1
-SHEET, FIELD = 1, 2
+SHEET, FIELD, HEADER = 1, 2, 3
 ACCEPTED = (0, 0, 0)
 
 # Codes of repr and arg.
@@ -19,16 +22,26 @@ ABSENT, U8, U16, U32, U64, SLICE, BOOL, CODE = range(8)
 NUMBER, BYTES, TRUTH = 1, 2, 3
 
 
-def answer(sheet):
-    """Group, number and place of the first refusal of steps 1 and 2."""
-    refusal = step_1(sheet)
-    if refusal == ACCEPTED:
-        refusal = step_2(sheet)
-    return refusal
+def answer(sheet, last=3):
+    """Group, number and place of the first refusal of steps 1 to `last`."""
+    for step in (step_1, step_2, step_3)[:last]:
+        refusal = step(sheet)
+        if refusal != ACCEPTED:
+            return refusal
+    return ACCEPTED
 
 
 def blocks_of(sheet):
     return [sheet[i:i + BLOCK] for i in range(0, len(sheet), BLOCK)]
+
+
+def fields_of(sheet):
+    """The F blocks. They stand first, so their places are their indexes."""
+    return [block for block in blocks_of(sheet) if block[0:1] == b"F"]
+
+
+def name_of(block):
+    return block[2:2 + block[1]]
 
 
 def number_at(block, start, end):
@@ -240,7 +253,7 @@ BYTE_SIZE = {U8: 1, U16: 2, U32: 4, U64: 8}
 
 
 def resolved(block):
-    """The field of an F block that passes both steps, nothing absent."""
+    """The field of an F block that passes steps 1 and 2, nothing absent."""
     bits = number_at(block, 66, 70)
     rep = block[70] if block[70] != ABSENT else inferred_repr(bits)
     arg = block[71] if block[71] != ABSENT else rep
@@ -252,6 +265,83 @@ def resolved(block):
     count = number_at(block, 84, 86)
     return Resolved(bits, rep, arg, gen, fixed, guard, kind,
                     number_at(block, 76, 84), block[86:86 + count])
+
+
+def step_3(sheet):
+    """Header 1 to 5 for each field in turn, then header 6."""
+    names, bits = [], 0
+    for place, block in enumerate(fields_of(sheet)):
+        found = resolved(block)
+        number = header_refusal(names, bits, name_of(block), found)
+        if number != 0:
+            return HEADER, number, place
+        names.append(name_of(block))
+        bits += found.bits
+    if bits % 8 != 0:
+        return HEADER, 6, len(blocks_of(sheet))
+    return ACCEPTED
+
+
+def header_refusal(names, start, name, found):
+    """The number of the first header refusal of one field, or 0.
+
+    `names` are those of the fields before it, `start` is the sum of their bits.
+    """
+    if name in names:
+        return 1
+    if name == b"type":
+        return 2
+    if found.bits <= 64 and touched_bytes(start, found.bits) > 8:
+        return 3
+    if found.repr == SLICE and start % 8 != 0:
+        return 4
+    if (start + found.bits) // 8 > MOST_BYTES:
+        return 5
+    return 0
+
+
+def touched_bytes(start, bits):
+    """From the byte of the first bit to the byte of the last, both counted."""
+    return (start + bits - 1) // 8 - start // 8 + 1
+
+
+def starts(sheet):
+    """For each field the sum of the bits of the fields before it."""
+    out, bits = [], 0
+    for block in fields_of(sheet):
+        out.append(bits)
+        bits += resolved(block).bits
+    return out
+
+
+def lookups(sheet):
+    """For each block the index of the first field of its name, 255 for none."""
+    names = [name_of(block) for block in fields_of(sheet)]
+    return [names.index(name_of(block)) if name_of(block) in names else 255
+            for block in blocks_of(sheet)]
+
+
+def header_length(sheet):
+    return sum(resolved(block).bits for block in fields_of(sheet)) // 8
+
+
+def template(sheet):
+    """The bytes of the header, each field set to its default."""
+    out = bytearray(header_length(sheet))
+    for start, block in zip(starts(sheet), fields_of(sheet)):
+        found = resolved(block)
+        if found.repr == SLICE:
+            out[start // 8:start // 8 + len(found.data)] = found.data
+        else:
+            for i in range(found.bits):
+                if found.number >> (found.bits - 1 - i) & 1:
+                    out[(start + i) // 8] |= bit_mask((start + i) % 8)
+    return bytes(out)
+
+
+def bit_mask(bit):
+    """Bit 0 of a byte is its most significant one, bit 7 its least."""
+    return 128 >> bit
 
 
 def field_facts(block):
@@ -268,7 +358,7 @@ def tree_facts(block):
 
 
 def facts(sheet):
-    """The facts of a sheet that passes both steps."""
+    """The facts of a sheet that passes steps 1 and 2."""
     blocks = blocks_of(sheet)
     kinds = [block[0:1] for block in blocks]
     slots = [255, 255, 255]
@@ -285,4 +375,9 @@ def facts(sheet):
     for kind, block in zip(kinds, blocks):
         if kind == b"L" and block[67] == 6:
             out += tree_facts(block)
+    out += b"".join(struct.pack(">I", start) for start in starts(sheet))
+    out += bytes(lookups(sheet))
+    if step_3(sheet) == ACCEPTED:
+        pack = packed(template(sheet))
+        out += struct.pack(">IH", header_length(sheet), len(pack)) + pack
     return out

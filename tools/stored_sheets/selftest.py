@@ -1,12 +1,17 @@
 """The tests of this program itself."""
 
 import struct
+from unittest.mock import patch
 
-from blocks import field, length, lister_sheet, tree
+import rules
+from blocks import field, length, lister_sheet, rfc_791_sheet, shaped, tree
+from cases import Cases
 from layouts import LEAF, X
-from records import all_cases, answer_name, packed, record, unpacked
+from packing import packed, unpacked
+from records import HEADERS, all_cases, answer_name, record
 from rules import (
-    ACCEPTED, BLOCK, BYTES, CODE, SLICE, answer, blocks_of, facts, ones_complement_sum)
+    ACCEPTED, BLOCK, BYTES, CODE, HEADER, SLICE, answer, blocks_of, facts, fields_of,
+    header_length, name_of, ones_complement_sum, resolved, starts, step_3, template)
 
 # The facts of the lister's sheet, written by hand.
 LISTER_FACTS = """
@@ -17,6 +22,9 @@ LISTER_FACTS = """
 0000000c 02 02 00 00 01 01 0000000000000000 0000
 00000001 01 06 01 00 01 01 0000000000000001 0000
 00000003 01 01 01 00 01 01 0000000000000005 0000
+00000000 00000004 00000008 00000014 00000015
+00 01 02 03 04 01 02 00
+00000003 0006 0000 03 41000d
 """
 
 # The facts of a sheet of three blocks: a byte slice with a stated default, a
@@ -28,7 +36,22 @@ SMALL_FACTS = """
 01 00 00 0000000000000000
 00 00 00 0000000000000003
 04 00 01 0000000000000000
-""" + "00" * 11 * 29
+""" + "00" * 11 * 29 + """
+00000000
+00 ff ff
+00000002 0005 0000 02 6162
+"""
+
+# The facts of a sheet that step 3 refuses: 3 and 9 bits named a, with C on a
+# and on b.
+REFUSED_FACTS = """
+020002 ffffff
+0161 0161 0161 0162
+00000003 01 01 01 00 01 01 0000000000000000 0000
+00000009 02 02 01 00 01 01 0000000000000000 0000
+00000000 00000003
+00 00 00 ff
+"""
 
 
 def check_facts():
@@ -37,7 +60,26 @@ def check_facts():
     small += tree(X, LEAF, (4, 0, 1, 0), name=b"x", slot=1) + length(form=0)
     assert answer(small) == ACCEPTED
     assert facts(small) == bytes.fromhex(SMALL_FACTS)
-    assert facts(b"") == bytes.fromhex("000000ffffff")
+    refused = shaped("a:3 a:9 C:a C:b")
+    assert answer(refused, 2) == ACCEPTED and answer(refused) == (HEADER, 1, 1)
+    assert facts(refused) == bytes.fromhex(REFUSED_FACTS)
+    assert facts(b"") == bytes.fromhex("000000ffffff 00000000 0000")
+
+
+def check_known_headers():
+    """Headers worked by hand."""
+    lister, internet = b"".join(lister_sheet()), b"".join(rfc_791_sheet())
+    assert answer(lister) == answer(internet) == ACCEPTED
+    assert starts(lister) == [0, 4, 8, 20, 21]
+    assert template(lister).hex() == "41000d"
+    assert starts(internet) == [0, 4, 8, 16, 32, 48, 51, 64, 72, 80, 96, 128]
+    assert template(internet).hex() == "45" + 19 * "00"
+    # 7 and 57 bits end with byte 7, 58 bits reach byte 8.
+    assert answer(shaped("7 57")) == ACCEPTED
+    assert answer(shaped("7 58 7")) == answer(shaped("1 64 7")) == (HEADER, 3, 1)
+    assert answer(shaped("33554424 8")) == (HEADER, 5, 1)
+    assert answer(shaped("33554424 7")) == (HEADER, 6, 2)
+    assert answer(shaped("type:8 type:8")) == (HEADER, 2, 0)
 
 
 def check_sums(cases):
@@ -56,6 +98,11 @@ def check_packing(cases):
     assert packed(b"\0\1\0\0\0\2") == b"\0\1\5\1\0\0\0\2"
     assert packed(b"\1\0\0\0\0\2") == b"\0\0\1\1\0\4\1\2"
     assert packed(b"\1" * 256) == b"\0\0\xff" + b"\1" * 255 + b"\0\0\1\1"
+    far = b"\xff\xff\1\0"
+    assert packed(bytes(65_535) + b"\1") == b"\xff\xff\1\1"
+    assert packed(bytes(65_536) + b"\1") == far + b"\0\0\1\1"
+    assert packed(bytes(65_537) + b"\1") == far + b"\0\1\1\1"
+    assert packed(b"\1" + bytes(131_072) + b"\2") == b"\0\0\1\1" + far * 2 + b"\0\0\1\2"
     for case in cases:
         assert unpacked(packed(case.sheet), len(case.sheet)) == case.sheet, case.title
 
@@ -68,20 +115,162 @@ def check_records(cases):
         at += 9
         assert unpacked(content[at:at + pack], size) == case.sheet, case.title
         assert tuple(expected) == case.expected == answer(case.sheet), case.title
-        assert (known != 0) == (case.expected == ACCEPTED), case.title
-        at += pack + known
+        assert (known != 0) == (case.expected[0] in (0, HEADER)), case.title
+        at += pack
+        if known != 0:
+            check_last_facts(case, content[at:at + known])
+        at += known
     assert at == len(content)
-    assert len(content) < 600_000
+    assert len(content) < 900_000
+
+
+def check_last_facts(case, known):
+    """Reads starts, lookups, length and template, which stand last in the facts."""
+    places, fields = range(len(blocks_of(case.sheet))), len(fields_of(case.sheet))
+    tail = b""
+    if case.expected == ACCEPTED:
+        pack = packed(template(case.sheet))
+        tail = known[len(known) - 6 - len(pack):]
+        size, count = struct.unpack_from(">IH", tail)
+        assert size == header_length(case.sheet) and count == len(pack), case.title
+        assert unpacked(tail[6:], size) == template(case.sheet), case.title
+    known = known[:len(known) - len(tail)]
+    found = known[len(known) - len(places):]
+    names = [name_of(block) for block in blocks_of(case.sheet)]
+    for place in places:
+        same = [i for i in range(fields) if names[i] == names[place]]
+        assert found[place] == min(same, default=255), case.title
+    known = known[:len(known) - len(found)]
+    begins = struct.unpack(f">{fields}I", known[len(known) - 4 * fields:])
+    assert list(begins) == starts(case.sheet), case.title
+
+
+def faults_of_header(sheet):
+    """Step 3 in another way: all faults of all fields, as place and number."""
+    count, end, names, faults = len(blocks_of(sheet)), 0, [], []
+    for place, block in enumerate(fields_of(sheet)):
+        found = resolved(block)
+        start, end = end, end + found.bits
+        names.append(name_of(block))
+        if names.count(names[place]) > 1:
+            faults.append((place, 1))
+        if names[place] == b"type":
+            faults.append((place, 2))
+        if found.bits <= 64 and len({bit // 8 for bit in range(start, end)}) > 8:
+            faults.append((place, 3))
+        if found.repr == SLICE and start & 7:
+            faults.append((place, 4))
+        if end >= 8 * 4_194_304:
+            faults.append((place, 5))
+    if end & 7:
+        faults.append((count, 6))
+    return faults
+
+
+def check_headers(cases):
+    """The least fault, place before number, is the answer of step 3."""
+    for case in cases:
+        if answer(case.sheet, 2) == ACCEPTED:
+            wanted = ACCEPTED
+            faults = faults_of_header(case.sheet)
+            if faults:
+                place, number = min(faults)
+                wanted = (HEADER, number, place)
+            assert step_3(case.sheet) == case.expected == wanted, case.title
+
+
+def check_templates(cases):
+    """The template is the defaults written as digits, one field after another."""
+    for case in cases:
+        if case.expected == ACCEPTED and header_length(case.sheet) < 100_000:
+            digits = "1"
+            for block in fields_of(case.sheet):
+                found = resolved(block)
+                if found.repr != SLICE:
+                    digits += f"{found.number:0{found.bits}b}"
+                elif found.data:
+                    digits += "".join(f"{byte:08b}" for byte in found.data)
+                else:
+                    digits += "0" * found.bits
+            assert f"{int(digits, 2):x}" == "1" + template(case.sheet).hex(), case.title
+
+
+def wrong_order(names, start, name, found):
+    """Header 4 before header 3."""
+    right = RIGHT["header_refusal"](names, start, name, found)
+    return 4 if right == 3 and found.repr == SLICE else right
+
+
+def wrong_limit(names, start, name, found):
+    """The limit held against the bits, not against whole bytes."""
+    right = RIGHT["header_refusal"](names, start, name, found)
+    return 5 if right == 0 and start + found.bits > rules.MOST_BITS else right
+
+
+def wrong_case(names, start, name, found):
+    """Names that differ only in case taken as equal."""
+    names = [name.lower() for name in names]
+    return RIGHT["header_refusal"](names, start, name.lower(), found)
+
+
+def wrong_template(sheet):
+    """Each shared byte cleared when a later field in it is written."""
+    out = bytearray(RIGHT["template"](sheet))
+    for start, block in zip(starts(sheet), fields_of(sheet)):
+        if start % 8 != 0 and start // 8 < len(out):
+            out[start // 8] &= 255 >> start % 8
+    return bytes(out)
+
+
+RIGHT = {"header_refusal": rules.header_refusal, "template": rules.template}
+
+# Wrong rules, each of which the cases of step 3 have to notice.
+WRONG_RULES = (
+    ("touched_bytes", lambda start, bits: (bits + 7) // 8),
+    ("touched_bytes", lambda start, bits: (start % 8 + bits) // 8 + 1),
+    ("touched_bytes", lambda start, bits: 9 if start % 8 and bits > 56 else 8),
+    ("name_of", lambda block: block[2:2 + min(block[1], 63)]),
+    ("MOST_BYTES", 4_194_302),
+    ("MOST_BYTES", 4_194_304),
+    ("bit_mask", lambda bit: 1 << bit),
+    ("header_refusal", wrong_order),
+    ("header_refusal", wrong_limit),
+    ("header_refusal", wrong_case),
+    ("template", wrong_template),
+)
+
+
+def check_wrong_rules():
+    for name, wrong in WRONG_RULES:
+        with patch.object(rules, name, wrong):
+            assert not cases_hold(), name
+    assert cases_hold()
+
+
+def cases_hold():
+    """Whether the cases of step 3 can be made, each as it is stated."""
+    cases = Cases()
+    try:
+        for section in HEADERS:
+            section(cases)
+    except SystemExit:
+        return False
+    return True
 
 
 def check():
     check_facts()
+    check_known_headers()
     cases = all_cases()
     check_sums(cases)
     check_packing(cases)
     check_records(cases)
+    check_headers(cases)
+    check_templates(cases)
+    check_wrong_rules()
     labels = {answer_name(case.expected) for case in cases}
     wanted = {"accepted"} | {f"sheet {n}" for n in range(1, 7)}
     wanted |= {f"field {n}" for n in range(1, 8)}
+    wanted |= {f"header {n}" for n in range(1, 7)}
     assert labels == wanted
     print(f"{len(cases)} cases hold")

@@ -3,11 +3,12 @@ use mathlib.Core.Path.{_≡_}
 use mathlib.Core.Bool.{Bool, true, false}
 use mathlib.Core.List.{List}
 use Prim.Native.Nat.{ℕ, _+_, _/_, _%_, _≤_, _<_}
+use native.Mathlib.Omega.{arith}
 use lib.Dec.{eqb}
-use borrow.Author.Tests.{ltb-false}
 use Rattle.answer.specs.declared.Group.{Group}
-use Rattle.answer.specs.Paper.{gives, refused, accepted, refuse, first}
-use Rattle.answer.proofs.Laws.{both, not-refused, stand, first-stop}
+use Rattle.answer.specs.Paper.{gives, refused, accepted, first}
+use Rattle.answer.proofs.Laws.{both-is, refuse-is, stand, first-stop}
+use Rattle.answer.proofs.Tests.{leb-is-not}
 use Rattle.number.specs.Numbers.{maxBytes}
 use Rattle.sheet.specs.Blocks.{blockCount, fieldCount}
 use Rattle.field.specs.declared.Field.{Field}
@@ -28,17 +29,8 @@ pub record Passed (used : Bool) (name : List ℕ) (start : ℕ) (f : Field) : Ty
 pub passed-all : (used : Bool) (name : List ℕ) (start : ℕ) (f : Field) (i : ℕ) → faultsOf used name start f i ≡ accepted → Passed used name start f
 unfolding faultsOf
 passed-all used name start f i e =
-    let one = both _ _ e in
-    let two = both _ _ (one .1) in
-    let three = both _ _ (two .1) in
-    let four = both _ _ (three .1) in
-    record {
-      new-name = not-refused _ Group.Header 1 i (one .0);
-      free-name = not-refused _ Group.Header 2 i (two .0);
-      eight = not-refused _ Group.Header 3 i (three .0);
-      boundary = not-refused _ Group.Header 4 i (four .0);
-      short = ltb-false maxBytes _ (not-refused _ Group.Header 5 i (four .1));
-    }
+    let p = simp (both-is, refuse-is, leb-is-not) at e in
+    record { new-name = p .0; free-name = p .1 .0; eight = p .1 .1 .0; boundary = p .1 .1 .1 .0; short = omega (arith, p .1 .1 .1 .1) }
 
 -- ---- all fields
 

@@ -1,12 +1,17 @@
 // Runs the steps over stored sheets. The file `sheets` is made by tools/stored_sheets, from the rules and not from this program; its record format
-// is told there. Prints how many sheets gave the answer, and what an accepted one holds, that the file has for them, and how many did not.
+// is told there. Prints how many sheets gave the answer, and what a sheet that passed holds, that the file has for them, and how many did not.
 use answer::Group;
+use answer::Refusal;
 use answer::Verdict;
 use bits::BytesWrite;
 use blocks::nodes::Node;
 use field::DefaultVal;
 use field::Field;
 use field::NewField;
+use header::FieldIndex;
+use header::FieldStart;
+use header::Header;
+use header::NewHeader;
 use libc::STDOUT_FILENO;
 use number::Bytes;
 use sheet::SlotBlock;
@@ -199,11 +204,13 @@ fn table(r: Reading, facts: &[u8], b: &[u8]) -> Reading {
     r
 }
 
-// What the facts have for each block: first all names, then all fields, then all trees.
+// What the facts have for each block: first all names, then all fields, all trees, all starts, and for each name the field that it means.
 enum Section {
     Names,
     Fields,
     Trees,
+    Starts,
+    Lookups,
 }
 
 fn named(r: Reading, facts: &[u8], b: &[u8]) -> Reading {
@@ -228,29 +235,161 @@ fn tree(r: Reading, facts: &[u8], b: &[u8]) -> Reading {
     r
 }
 
-fn of_block(section: Section, r: Reading, facts: &[u8], b: &[u8], i: usize) -> Reading {
+fn starts(r: Reading, facts: &[u8], s: &[u8], i: usize) -> Reading {
+    match header::start(s, i) {
+        FieldStart::At(p) => r.four(facts, p.to_global_pos().0),
+        FieldStart::None => r,
+    }
+}
+
+fn looked_up(r: Reading, facts: &[u8], s: &[u8], b: &[u8]) -> Reading {
+    match header::field_named(s, blocks::name(b)) {
+        FieldIndex::At(i) => r.byte(facts, one_byte(i)),
+        FieldIndex::None => r.byte(facts, 255),
+    }
+}
+
+fn of_block(section: Section, r: Reading, facts: &[u8], s: &[u8], i: usize) -> Reading {
+    let b = sheet::block(s, i);
     match section {
         Section::Names => named(r, facts, b),
         Section::Fields => resolved(r, facts, b, i),
         Section::Trees => tree(r, facts, b),
+        Section::Starts => starts(r, facts, s, i),
+        Section::Lookups => looked_up(r, facts, s, b),
     }
 }
 
 fn of_blocks(section: Section, r: Reading, facts: &[u8], s: &[u8]) -> Reading {
     let mut r = r;
     for i in 0..s.len() / 512 {
-        r = of_block(section, r, facts, sheet::block(s, i), i);
+        r = of_block(section, r, facts, s, i);
     }
     r
 }
 
-// Whether the sheet holds what the facts say, and nothing is left of them.
-fn holds_facts(s: &[u8], facts: &[u8]) -> bool {
+// What any sheet that passed steps 1 and 2 holds.
+fn of_sheet(s: &[u8], facts: &[u8]) -> Reading {
     let r = counts(Reading { at: 0, ok: true }, facts, s);
     let r = of_blocks(Section::Names, r, facts, s);
     let r = of_blocks(Section::Fields, r, facts, s);
     let r = of_blocks(Section::Trees, r, facts, s);
-    r.ok & (r.at == facts.len())
+    let r = of_blocks(Section::Starts, r, facts, s);
+    of_blocks(Section::Lookups, r, facts, s)
+}
+
+// ---- the template of one that passed step 3 too, built in a buffer that holds the filling and nothing else
+
+// Room for the longest header, and 16 bytes more.
+fn large_filling() -> [u8; 4194319] {
+    [165; 4194319]
+}
+
+// Whether each byte from there on is the filling.
+fn is_filling(buf: &[u8], from: usize) -> bool {
+    let mut ok = true;
+    let mut i = from;
+    while i < buf.len() {
+        ok = ok & (buf[i] == 165);
+        i += 1;
+    }
+    ok
+}
+
+fn fill_again(buf: &mut [u8]) {
+    let mut i = 0;
+    while i < buf.len() {
+        buf[i] = 165;
+        i += 1;
+    }
+}
+
+// Whether the buffer begins with what is packed, and then has zeros up to a length.
+fn begins_with(buf: &[u8], packed: &[u8], len: usize) -> bool {
+    if 65536 < packed.len() {
+        return false;
+    }
+    let mut ok = true;
+    let mut from: usize = 0;
+    let mut at: usize = 0;
+    while from < packed.len() {
+        let gap = wide(octets::be16(packed, from)) as usize;
+        let n = small(octets::byte_at(packed, from + 2));
+        let run = octets::part(packed, from + 3, from + 3 + n);
+        let zeros = octets::all_zero(buf, at, at + gap);
+        let same = octets::same_bytes(octets::part(buf, at + gap, at + gap + n), run);
+        ok = ok & zeros & same;
+        from += 3 + n;
+        at += gap + n;
+    }
+    ok & octets::all_zero(buf, at, len)
+}
+
+fn is_accepted(v: Verdict) -> bool {
+    match v {
+        Verdict::Accepted => true,
+        Verdict::Refused(_) => false,
+    }
+}
+
+fn is_room(v: Verdict, place: usize) -> bool {
+    match v {
+        Verdict::Accepted => false,
+        Verdict::Refused(r) => {
+            let paper = r.on_paper();
+            let group = paper.group;
+            (group_code(group) == 4) & (paper.number == 1) & (paper.place == place)
+        }
+    }
+}
+
+// Whether a buffer that is too short gets room 1 and keeps its bytes.
+fn is_refused(s: &[u8], short: &mut [u8]) -> bool {
+    let v = template::build_header_template(s, short);
+    is_room(v, s.len() / 512) & is_filling(short, 0)
+}
+
+// So for one byte less than the header has. No buffer is shorter than a header of 0 bytes.
+fn refuses_short(s: &[u8], buf: &mut [u8], len: usize) -> bool {
+    if len == 0 {
+        return true;
+    }
+    if buf.len() < len {
+        return false;
+    }
+    is_refused(s, &mut buf[..len - 1])
+}
+
+// Whether a buffer gets the template that is packed, and keeps its other bytes.
+fn is_built(s: &[u8], buf: &mut [u8], packed: &[u8], len: usize) -> bool {
+    let v = template::build_header_template(s, buf);
+    let built = is_accepted(v) & begins_with(buf, packed, len) & is_filling(buf, len);
+    fill_again(buf);
+    built
+}
+
+// So for 16 bytes more than the header has.
+fn builds_longer(s: &[u8], buf: &mut [u8], packed: &[u8], len: usize) -> bool {
+    if buf.len() < 16 {
+        return false;
+    }
+    if buf.len() - 16 < len {
+        return false;
+    }
+    is_built(s, &mut buf[..len + 16], packed, len)
+}
+
+// Whether the header is as long as the facts say, and its template what they have, with nothing left of them.
+fn of_header(s: &[u8], h: Header, r: Reading, facts: &[u8], buf: &mut [u8]) -> bool {
+    let len = h.len;
+    let n = len.0 as usize;
+    let r = r.four(facts, len.0);
+    let rest = octets::part(facts, r.at, facts.len());
+    let q = octets::be16(rest, 0) as usize;
+    let packed = octets::part(rest, 2, 2 + q);
+    let refused = refuses_short(s, buf, n);
+    let built = builds_longer(s, buf, packed, n);
+    r.ok & (rest.len() == 2 + q) & refused & built
 }
 
 // ---- the records
@@ -259,6 +398,8 @@ fn group_code(group: Group) -> u8 {
     match group {
         Group::Sheet => 1,
         Group::Field => 2,
+        Group::Header => 3,
+        Group::Room => 4,
         _ => 99,
     }
 }
@@ -270,20 +411,31 @@ fn has_answer(head: &[u8], group: u8, number: u8, place: usize) -> bool {
         & (octets::byte_at(head, 6) as usize == place)
 }
 
-// Whether the answer is the one that the record has, three zeros for accepted, and of an accepted sheet what it holds.
-fn is_expected(s: &[u8], head: &[u8], expected: &[u8]) -> bool {
+fn has_refusal(head: &[u8], reason: Refusal) -> bool {
+    let paper = reason.on_paper();
+    let group = paper.group;
+    has_answer(head, group_code(group), paper.number, paper.place)
+}
+
+// Whether step 3 answers what the record has, three zeros for accepted, and the sheet holds what the facts say, with nothing left of them.
+fn third_step(s: &[u8], head: &[u8], facts: &[u8], buf: &mut [u8]) -> bool {
+    let r = of_sheet(s, facts);
+    match Header::new(s) {
+        NewHeader::Refused(reason) => has_refusal(head, reason) & r.ok & (r.at == facts.len()),
+        NewHeader::Is(h) => has_answer(head, 0, 0, 0) & of_header(s, h, r, facts, buf),
+    }
+}
+
+// Whether the answer is the one that the record has, and what a sheet holds that passed.
+fn is_expected(s: &[u8], head: &[u8], facts: &[u8], buf: &mut [u8]) -> bool {
     match sheet::check(s).and_then(fields::check(s)) {
-        Verdict::Accepted => has_answer(head, 0, 0, 0) & holds_facts(s, expected),
-        Verdict::Refused(r) => {
-            let paper = r.on_paper();
-            let group = paper.group;
-            has_answer(head, group_code(group), paper.number, paper.place)
-        }
+        Verdict::Refused(reason) => has_refusal(head, reason),
+        Verdict::Accepted => third_step(s, head, facts, buf),
     }
 }
 
 // One record: its head, the packed sheet, the facts.
-fn replay_one(fd: i32) -> Turn {
+fn replay_one(fd: i32, buf: &mut [u8]) -> Turn {
     let mut head = [0u8; 9];
     let got = io::read_full(fd, &mut head);
     if got < 9 {
@@ -296,7 +448,7 @@ fn replay_one(fd: i32) -> Turn {
     let t = fill(fd, &mut expected, octets::be16(&head, 7) as usize);
     let whole = unpack(&packed[..p], &mut sheet);
     let s = octets::part(&sheet, 0, octets::be16(&head, 2) as usize);
-    if whole & is_expected(s, &head, &expected[..t]) {
+    if whole & is_expected(s, &head, &expected[..t], buf) {
         Turn::Right
     } else {
         Turn::Wrong
@@ -314,11 +466,11 @@ struct Tally {
 }
 
 // Record after record up to the end of the file, or a million; each that is wrong is named by its number.
-fn replay_all(fd: i32) -> Tally {
+fn replay_all(fd: i32, buf: &mut [u8]) -> Tally {
     let mut right: u64 = 0;
     let mut wrong: u64 = 0;
     for i in 0..1000000u64 {
-        let turn = replay_one(fd);
+        let turn = replay_one(fd, buf);
         match turn {
             Turn::End => break,
             Turn::Right => right += 1,
@@ -337,7 +489,8 @@ fn main() {
         os::fail(b"sheets");
         return;
     }
-    let tally = replay_all(fd);
+    let mut buf = large_filling();
+    let tally = replay_all(fd, &mut buf);
     libc::close(fd);
     io::print_decimal(STDOUT_FILENO, tally.right);
     io::write_all(STDOUT_FILENO, b" right, ");

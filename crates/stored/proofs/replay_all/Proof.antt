@@ -1,22 +1,24 @@
 -- `replay_all` is safe and ends: it goes from record to record, and counts no more than that. Assumes nothing.
+use mathlib.Core.Path.{_≡_, refl}
 use mathlib.Core.Logic.{⊎-elim}
 use Prim.Native.Nat.{_-_, _≤_}
 use native.Mathlib.Omega.{arith}
+use lib.ListN.{length}
 use borrow.Author.Needs.{needs}
 use Rattle.stored.proofs.replay_all.Statement.{statement}
 use Rattle.stored.proofs.replay_all.Tie as tie
 
 abbrev Inv-loop : tie.InvT-loop
-Inv-loop fd right₀ wrong₀ i₀ right wrong i = (i ≤ 1000000) × (right ≤ i) × (wrong ≤ i)
+Inv-loop fd buf₀ right₀ wrong₀ i₀ buf right wrong i = (i ≤ 1000000) × (right ≤ i) × (wrong ≤ i) × (length buf ≡ length buf₀)
 
 abbrev μ-loop : tie.MeasureT-loop
-μ-loop fd right₀ wrong₀ i₀ right wrong i = 1000000 - i
+μ-loop fd buf₀ right₀ wrong₀ i₀ buf right wrong i = 1000000 - i
 
 loop-holds : tie.Need-loop-holds Inv-loop μ-loop
-loop-holds c = (omega arith, omega arith, omega arith)
+loop-holds c = (omega arith, omega arith, omega arith, refl)
 
 loop-again : tie.Need-loop-again Inv-loop μ-loop
-loop-again c = ⊎-elim (λ w. omega arith) (λ w. omega arith) (c .match .came)
+loop-again c = ⊎-elim (λ w. (omega arith, omega arith, omega arith, search needs)) (λ w. (omega arith, omega arith, omega arith, search needs)) (c .match .came)
 
 pub replay-all-spec : {M : Type 1} → statement M
 replay-all-spec =
@@ -35,5 +37,7 @@ replay-all-spec =
     (λ c. omega arith)
     (λ c. omega arith)
     loop-again
+    (λ c. search needs)
+    (λ c. search needs)
     (λ c. search needs)
     (λ c. search needs))

@@ -18,7 +18,7 @@ returns c =
     let start = test .before .before .before .before in
     let a = start .args in
     bytes-put (start .pre .0) (cleared .clear-bytes .ensures)
-    ∙ ap (put (a .buf .now) (8 * a .from .0) (8 * a .count .0)) (sym (none-stated (a .b .now) (a .span .at) (a .span .len) (test .if1 .taken)))
+    ∙ ap (put (a .buf .now) (8 * a .from .0) (8 * a .count .0)) (sym (none-stated (a .b .now) (a .span .at) (a .span .len) (omega arith)))
 
 returns-2 : tie.Need-returns-2
 returns-2 c =
@@ -26,7 +26,7 @@ returns-2 c =
     let test = written .before .before .before .before in
     let start = test .before .before .before .before in
     let a = start .args in
-    let stated : a .span .len ≡ a .count .0 = ⊎-elim (λ e. e) (λ e. absurd (test .if1 .left e)) (start .pre .1 .1) in
+    let stated : a .span .len ≡ a .count .0 = ⊎-elim (λ e. e) (λ e. omega arith) (start .pre .1 .1) in
     stated-filled (written .before .part .ensures)
     (length-slice (a .span .at) (a .span .at + a .span .len) (a .b .now) (start .pre .1 .0) ∙ omega arith) (start .pre .0) (written .write-bytes .ensures)
 
