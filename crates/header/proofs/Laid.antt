@@ -1,6 +1,6 @@
 -- Step 3 accepts exactly the sheets of `Laid`, and the header of a sheet that passes steps 2 and 3 is good, so that demand 3 holds of it. One way the
 -- five tests of each field are taken apart, the other way each is shown not to hold. Assumes nothing.
-use mathlib.Core.Path.{_≡_, refl, sym, ap, _∙_}
+use mathlib.Core.Path.{_≡_, refl, ap}
 use mathlib.Core.Bool.{true, false, not}
 use mathlib.Core.List.{List}
 use mathlib.Core.Logic.{_⊎_, ⊎-elim, _↔_}
@@ -32,13 +32,14 @@ use Rattle.fields.specs.Step.{fieldAt, fieldsCheck}
 use Rattle.fields.proofs.Laws.{field-sound}
 use Rattle.layout.specs.Layout.{GoodField, Good}
 use Rattle.layout.specs.Demand.{Demand}
-use Rattle.layout.proofs.Listed.{position-none, position-more, position-later, good-listed}
+use Rattle.layout.proofs.Listed.{position-none, position-more, good-listed}
 use Rattle.layout.proofs.Demand.{demand}
-use Rattle.header.specs.Names.{nameAt, typeWord, isReserved}
+use Rattle.header.specs.Names.{nameAt, typeWord}
 use Rattle.header.specs.Places.{defaultNumber, headerField, layoutOf, startAt, bitsOf}
-use Rattle.header.specs.Step.{usedBefore, overEight, offBoundary, faultsOf, fieldFault, headerCheck, headerBytes}
+use Rattle.header.specs.Step.{usedBefore, faultsOf, fieldFault, headerCheck}
 use Rattle.header.specs.Laid.{Laid}
 use Rattle.header.proofs.Names.{differs, none-named}
+use Rattle.header.proofs.Places.{field-inside}
 use Rattle.header.proofs.Step.{Passed, passed-all}
 
 -- ---- past step 3
@@ -80,7 +81,7 @@ module _ (s : List ℕ) (l : Laid s) where
         differs (nameAt s i) typeWord .1 (l .not-type i h),
         never-both (leb (widthOf f) 64) (ltb 8 (touched (startAt s i) (widthOf f))) (λ p q. omega (arith, ltb-true 8 (touched (startAt s i) (widthOf f)) q, l .eight-bytes i h (leb-true (widthOf f) 64 p))),
         never-both (isSlice (f .repr)) (not (eqb (startAt s i % 8) 0)) (λ p q. eqb-false (startAt s i % 8) 0 (not-true _ q) (l .on-boundary i h (same-type (f .repr) BuiltinTypes.ByteSlice p))),
-        le-ltb maxBytes ((startAt s i + widthOf f) / 8) (omega (arith, position-later (headerField s) i (fieldCount s) h, l .most)),
+        le-ltb maxBytes ((startAt s i + widthOf f) / 8) (omega (arith, field-inside s i h, l .most)),
       )
 
   header-accepted : headerCheck s ≡ accepted

@@ -1,5 +1,5 @@
--- Step 3 in the cases that `Header::new` meets, and what a field that passed it holds. Assumes nothing.
-use mathlib.Core.Path.{_≡_}
+-- Step 3 in the cases that `Header::new` meets, what a field that passed it holds, and that its answer is one. Assumes nothing.
+use mathlib.Core.Path.{_≡_, ap}
 use mathlib.Core.Bool.{Bool, true, false}
 use mathlib.Core.List.{List}
 use Prim.Native.Nat.{ℕ, _+_, _/_, _%_, _≤_, _<_}
@@ -9,13 +9,15 @@ use Rattle.answer.specs.declared.Group.{Group}
 use Rattle.answer.specs.Paper.{gives, refused, accepted, first}
 use Rattle.answer.proofs.Laws.{both-is, refuse-is, stand, first-stop}
 use Rattle.answer.proofs.Tests.{leb-is-not}
+use Rattle.answer.proofs.OneToOne.{paperOf-one}
 use Rattle.number.specs.Numbers.{maxBytes}
 use Rattle.sheet.specs.Blocks.{blockCount, fieldCount}
 use Rattle.field.specs.declared.Field.{Field}
 use Rattle.field.specs.Sound.{widthOf}
+use Rattle.header.specs.declared.NewHeader.{NewHeader}
 use Rattle.header.specs.Names.{isReserved}
 use Rattle.header.specs.Places.{bitsOf}
-use Rattle.header.specs.Step.{overEight, offBoundary, faultsOf, fieldFault, headerCheck, headerOf, newHeader}
+use Rattle.header.specs.Step.{overEight, offBoundary, faultsOf, fieldFault, headerCheck, headerOf, newHeader, headerAnswer}
 
 -- ---- one field: what its five tests say where none refuses
 
@@ -48,3 +50,11 @@ module _ (s : List ℕ) where
   pub new-whole : first (fieldFault s) (fieldCount s) ≡ accepted → eqb (bitsOf s % 8) 0 ≡ true → newHeader s ≡ gives (headerOf s)
   unfolding headerCheck
   new-whole all e = rw (all, e)
+
+-- ---- one answer: what the program's answer says of a header tells answers apart
+
+pub header-answer-one : (p q : NewHeader) → headerAnswer p ≡ headerAnswer q → p ≡ q
+header-answer-one (NewHeader.Is h) (NewHeader.Is k) e = cc
+header-answer-one (NewHeader.Is h) (NewHeader.Refused r) e = cc
+header-answer-one (NewHeader.Refused r) (NewHeader.Is h) e = cc
+header-answer-one (NewHeader.Refused r) (NewHeader.Refused q) e = ap NewHeader.Refused (paperOf-one r q e)

@@ -7,12 +7,12 @@ use mathlib.Core.Logic.{_↔_, ⊎-elim}
 use Prim.Native.Nat.{ℕ, suc, _+_, _-_, _*_, _/_, _%_, _^_, _≤_, _<_}
 use native.Mathlib.Decide.{ℕ-discrete}
 use native.Mathlib.Omega.{arith}
-use lib.Dec.{leb, eqb}
+use lib.Dec.{eqb}
 use lib.ListN.{length, take, drop, length-drop}
 use lib.Seq.{length-take-le}
 use borrow.Author.Tests.{eq-eqb, ne-eqb}
 use Rattle.answer.specs.declared.Group.{Group}
-use Rattle.answer.specs.Paper.{gives, refused, Check, accepted, refuse, _andThen_}
+use Rattle.answer.specs.Paper.{gives, refused, Check, accepted, refuse}
 use Rattle.answer.proofs.Laws.{both-is, refuse-is, given}
 use Rattle.answer.proofs.Tests.{leb-is, leb-is-not, eqb-is, not-is}
 use Rattle.octets.specs.Octets.{AreBytes, byte}

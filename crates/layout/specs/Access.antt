@@ -7,7 +7,6 @@ use lib.Dec.{leb, ltb, eqb}
 use lib.ListN.{length, take, drop}
 use Rattle.answer.specs.declared.Group.{Group}
 use Rattle.answer.specs.Paper.{Answer, gives, refused, Check, accepted, refuse, _andThen_}
-use Rattle.octets.specs.Octets.{AreBytes}
 use Rattle.bits.specs.Bits.{spelled}
 use Rattle.bits.specs.Writes.{put}
 use Rattle.layout.specs.Layout.{HeaderField, field, bits, start, width, content}

@@ -1,6 +1,6 @@
 -- A sheet that passed steps 1 to 3: each of its fields can be filled where it starts, and a buffer that is filled field after field is filled.
 -- Assumes nothing.
-use mathlib.Core.Path.{_≡_, refl, sym, ap, _∙_}
+use mathlib.Core.Path.{_≡_, refl, ap, _∙_}
 use mathlib.Core.List.{List}
 use Prim.Native.Nat.{ℕ, _+_, _*_, _^_, _≤_, _<_}
 use native.Mathlib.Nat.{le-of-lt}
@@ -13,18 +13,17 @@ use Rattle.answer.proofs.Laws.{both}
 use Rattle.number.specs.Numbers.{maxBytes}
 use Rattle.bits.specs.Writes.{put}
 use Rattle.sheet.specs.Blocks.{blockCount, blockAt, fieldCount}
-use Rattle.sheet.specs.Accepted.{Accepted}
 use Rattle.sheet.specs.Sheet.{sheetCheck}
 use Rattle.sheet.proofs.Accepted.{accepted-is}
 use Rattle.field.specs.Sound.{widthOf}
 use Rattle.fields.specs.Step.{fieldAt, fieldsCheck}
 use Rattle.fields.proofs.Laws.{field-sound}
 use Rattle.layout.specs.Layout.{HeaderField, field, start, width, Filled}
-use Rattle.layout.proofs.Listed.{position-later, length-listed, field-listed, bits-listed, start-listed}
 use Rattle.layout.proofs.Places.{within}
 use Rattle.layout.proofs.Filled.{filled-more}
-use Rattle.header.specs.Places.{defaultNumber, headerField, layoutOf, startAt, bitsOf}
+use Rattle.header.specs.Places.{defaultNumber, layoutOf, startAt, bitsOf}
 use Rattle.header.specs.Step.{headerCheck, headerBytes}
+use Rattle.header.proofs.Places.{layout-length, layout-field, layout-bits, layout-start, field-inside}
 use Rattle.header.proofs.Laid.{laid, good-field, good}
 use Rattle.template.specs.Template.{threeSteps, Fillable}
 use Rattle.template.proofs.Laws.{f-stated, span-inside}
@@ -51,10 +50,6 @@ module _ (s : List ℕ) (ok : threeSteps s ≡ accepted) where
   few-bytes = laid s (steps .2) .most
 
   module _ (i : ℕ) (h : i < fieldCount s) where
-    -- its field ends within the header
-    pub ends-within : startAt s i + widthOf (fieldAt s i) ≤ bitsOf s
-    ends-within = position-later (headerField s) i (fieldCount s) h
-
     pub fillable : (buf : List ℕ) → bitsOf s ≤ 8 * length buf → Fillable buf (blockAt s i) (fieldAt s i) (startAt s i)
     fillable buf room =
         let a = accepted-is s .0 (steps .0) in
@@ -62,16 +57,15 @@ module _ (s : List ℕ) (ok : threeSteps s ≡ accepted) where
         record {
           sound = field-sound s (steps .1) i h;
           good = good-field s (steps .1) (steps .2) i h;
-          room = omega (arith, ends-within);
+          room = omega (arith, field-inside s i h);
           inside = λ span e. omega (arith, span-inside (blockAt s i) (f-stated (blockAt s i) (a .f-first i h) (a .laid-out i there)) span e, block-long s i there);
         }
 
     -- one field more
     pub filled-next : {b c : List ℕ} → bitsOf s ≤ 8 * length b → Filled (layoutOf s) i b c
         → Filled (layoutOf s) (i + 1) b (put c (startAt s i) (widthOf (fieldAt s i)) (defaultNumber (blockAt s i) ((fieldAt s i) .default)))
-    unfolding layoutOf
     filled-next {b} {c} room before =
-        let is : field (layoutOf s) i ≡ headerField s i = field-listed (headerField s) (fieldCount s) i h in
-        filled-at (layoutOf s) i c (start-listed (headerField s) (fieldCount s) i (le-of-lt h)) (ap (λ (f : HeaderField). f .width) is) (ap (λ (f : HeaderField). f .default) is)
-        (good s (steps .1) (steps .2) .each i (rw (length-listed (headerField s) (fieldCount s)) h) .default-fits)
-        (omega (arith, within (layoutOf s) i, bits-listed (headerField s) (fieldCount s))) before
+        let is = layout-field s i h in
+        filled-at (layoutOf s) i c (layout-start s i (le-of-lt h)) (ap (λ (f : HeaderField). f .width) is) (ap (λ (f : HeaderField). f .default) is)
+        (good s (steps .1) (steps .2) .each i (rw (layout-length s) h) .default-fits)
+        (omega (arith, within (layoutOf s) i, layout-bits s)) before

@@ -1,10 +1,8 @@
 -- `bits_before` meets its contract. The loop's invariant: the sum is where field i starts, and 64 widths of 32 bits do not overflow it. Assumes nothing.
 use mathlib.Core.Path.{_≡_, sym, ap, _∙_}
-use Prim.Native.Nat.{_+_, _-_, _*_, _^_, _≤_}
+use Prim.Native.Nat.{_-_, _*_, _^_, _≤_}
 use native.Mathlib.Omega.{arith}
 use borrow.Author.Needs.{needs}
-use Rattle.field.specs.declared.Field.{Field}
-use Rattle.field.specs.Sound.{widthOf}
 use Rattle.layout.proofs.Listed.{position-none, position-more}
 use Rattle.header.specs.Places.{headerField, startAt}
 use Rattle.header.proofs.bits_before.Statement.{statement}

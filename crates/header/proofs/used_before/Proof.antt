@@ -1,9 +1,5 @@
 -- `used_before` meets its contract: by what the walk over the fields before found. Assumes nothing.
-use mathlib.Core.Path.{sym, ap, _∙_}
 use borrow.Author.Needs.{needs}
-use Rattle.sheet.specs.Sheet.{isSome}
-use Rattle.header.specs.declared.FieldIndex.{FieldIndex}
-use Rattle.header.specs.Names.{indexOf}
 use Rattle.header.proofs.used_before.Statement.{statement}
 use Rattle.header.proofs.used_before.Tie as tie
 

@@ -1,8 +1,8 @@
 -- `fill_again` is safe and ends: it goes from byte to byte of a buffer that keeps its length. Assumes nothing.
-use mathlib.Core.Path.{_≡_, refl, _∙_}
+use mathlib.Core.Path.{_≡_, refl}
 use Prim.Native.Nat.{_-_, _≤_}
 use native.Mathlib.Omega.{arith}
-use lib.ListN.{length, length-set}
+use lib.ListN.{length}
 use borrow.Author.Needs.{needs}
 use Rattle.stored.proofs.fill_again.Statement.{statement}
 use Rattle.stored.proofs.fill_again.Tie as tie

@@ -1,7 +1,7 @@
 -- `build_header_template` meets its contract: a refusal of a step stands, and past them the buffer's room decides. Assumes nothing.
 use mathlib.Core.Path.{_≡_, sym, ap, _∙_}
 use borrow.Author.Needs.{needs}
-use Rattle.answer.specs.Paper.{accepted, paper, _andThen_}
+use Rattle.answer.specs.Paper.{paper, _andThen_}
 use Rattle.answer.proofs.Laws.{passed, given, not-given}
 use Rattle.sheet.specs.Sheet.{sheetCheck}
 use Rattle.fields.specs.Step.{fieldsCheck}

@@ -9,7 +9,8 @@ use Rattle.layout.specs.Layout.{Filled}
 use Rattle.layout.proofs.Listed.{position-none, position-more}
 use Rattle.layout.proofs.Filled.{filled-none}
 use Rattle.header.specs.Places.{headerField, layoutOf, startAt, bitsOf}
-use Rattle.template.proofs.Steps.{few-bytes, ends-within, fillable, filled-next}
+use Rattle.header.proofs.Places.{field-inside}
+use Rattle.template.proofs.Steps.{few-bytes, fillable, filled-next}
 use Rattle.template.proofs.fill.Statement.{statement}
 use Rattle.template.proofs.fill.Tie as tie
 
@@ -45,7 +46,7 @@ add-start c =
     let found = c .before .before .before .before .before .before in
     let turn = found .before .before in
     let start = turn .before .before .before .before in
-    omega (arith, found .resolved .ensures .1, turn .before .loop .inv .1, ends-within (start .args .s .now) (start .pre .0) (turn .before .loop .i) (there turn), few-bytes (start .args .s .now) (start .pre .0))
+    omega (arith, found .resolved .ensures .1, turn .before .loop .inv .1, field-inside (start .args .s .now) (turn .before .loop .i) (there turn), few-bytes (start .args .s .now) (start .pre .0))
 
 loop-again : tie.Need-loop-again Inv-loop μ-loop
 loop-again c =

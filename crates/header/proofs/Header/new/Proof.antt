@@ -1,7 +1,7 @@
 -- `Header::new` meets its contract. The loop's invariant: the fields so far passed, and their bits are summed; since they passed header 5, the sum
 -- stays far below what 64 bits hold. Assumes nothing.
 use mathlib.Core.Path.{_≡_, sym, ap, _∙_}
-use Prim.Native.Nat.{_+_, _-_, _/_, _≤_}
+use Prim.Native.Nat.{_-_, _/_, _≤_}
 use native.Mathlib.Omega.{arith}
 use borrow.Author.Needs.{needs}
 use borrow.Author.Tests.{not-true, not-false}

@@ -1,0 +1,57 @@
+-- The fields of a sheet as a list: how many, where each starts, that they lie in the header and one behind the other, with every bit in one of them;
+-- and that a start's answer is one. Assumes nothing.
+use mathlib.Core.Path.{_≡_, refl, ap}
+use mathlib.Core.List.{List}
+use Prim.Native.Nat.{ℕ, _+_, _≤_, _<_}
+use native.Mathlib.Omega.{arith}
+use lib.ListN.{length}
+use Rattle.bits.proofs.Positions.{position-one}
+use Rattle.sheet.specs.Blocks.{fieldCount}
+use Rattle.field.specs.Sound.{widthOf}
+use Rattle.fields.specs.Step.{fieldAt}
+use Rattle.layout.specs.Layout.{field, bits, start, In}
+use Rattle.layout.proofs.Places.{start-end, find, only}
+use Rattle.layout.proofs.Listed.{position-later, length-listed, field-listed, bits-listed, start-listed}
+use Rattle.header.specs.declared.FieldStart.{FieldStart}
+use Rattle.header.specs.Places.{headerField, layoutOf, startAt, bitsOf, startIn}
+
+module _ (s : List ℕ) where
+  pub layout-length : length (layoutOf s) ≡ fieldCount s
+  unfolding layoutOf
+  layout-length = length-listed (headerField s) (fieldCount s)
+
+  pub layout-field : (i : ℕ) → i < fieldCount s → field (layoutOf s) i ≡ headerField s i
+  unfolding layoutOf
+  layout-field i h = field-listed (headerField s) (fieldCount s) i h
+
+  pub layout-bits : bits (layoutOf s) ≡ bitsOf s
+  unfolding layoutOf
+  layout-bits = bits-listed (headerField s) (fieldCount s)
+
+  pub layout-start : (i : ℕ) → i ≤ fieldCount s → start (layoutOf s) i ≡ startAt s i
+  unfolding layoutOf
+  layout-start i h = start-listed (headerField s) (fieldCount s) i h
+
+  -- ---- where they lie
+
+  -- each field ends within the header
+  pub field-inside : (i : ℕ) → i < fieldCount s → startAt s i + widthOf (fieldAt s i) ≤ bitsOf s
+  field-inside i h = position-later (headerField s) i (fieldCount s) h
+
+  -- two have no bit in common: the earlier ends where the later starts, or before
+  pub fields-apart : (i j : ℕ) → i < j → startAt s i + widthOf (fieldAt s i) ≤ startAt s j
+  fields-apart i j h = position-later (headerField s) i j h
+
+  -- each bit of the header is in one field, and in no other
+  pub one-field : (k : ℕ) → k < bitsOf s → (i : ℕ) × In (layoutOf s) i k × ((j : ℕ) → In (layoutOf s) j k → j ≡ i)
+  one-field k h =
+      let found = find (layoutOf s) (length (layoutOf s)) k (omega (arith, start-end (layoutOf s), layout-bits)) in
+      (found .0, found .2, λ j p. only (layoutOf s) (found .0) j k (found .2) p)
+
+-- ---- one answer: what the program's answer says of a start tells answers apart
+
+pub start-one : (p q : FieldStart) → startIn p ≡ startIn q → p ≡ q
+start-one (FieldStart.At p) (FieldStart.At q) e = ap FieldStart.At (position-one p q cc)
+start-one (FieldStart.At p) FieldStart.None e = cc
+start-one FieldStart.None (FieldStart.At q) e = cc
+start-one FieldStart.None FieldStart.None e = refl
