@@ -16,14 +16,14 @@ ghost use mathlib.Core.Logic.{_⊎_};
 ghost use Prim.Native.Nat.{_+_, _*_, _≤_};
 ghost use lib.ListN.{length};
 ghost use lib.Seq.{slice};
-ghost use Rattle.answer.specs.Paper.{accepted, paper};
+ghost use Rattle.answer.specs.Paper.{accepted};
 ghost use Rattle.bits.specs.Bits.{spelled};
 ghost use Rattle.bits.specs.Writes.{put};
 ghost use Rattle.sheet.specs.Blocks.{fieldCount};
 ghost use Rattle.layout.specs.Layout.{Filled};
 ghost use Rattle.header.specs.Places.{defaultNumber, layoutOf, bitsOf};
 ghost use Rattle.header.specs.Step.{headerOf};
-ghost use Rattle.template.specs.Template.{threeSteps, templateCheck, TemplateBuilt, Fillable};
+ghost use Rattle.template.specs.Template.{threeSteps, TemplateBuilt, Fillable};
 
 // Fills a byte slice with the bytes of the span, or with zeros where none are stated.
 fn fill_bytes(buf: &mut [u8], from: Bytes, count: Bytes, b: &[u8], span: Span)
