@@ -36,7 +36,8 @@ fn type_of(code: u8) -> BuiltinTypes
     }
 }
 
-fn bits_in(b: &[u8]) -> Bits
+// The bits of an F block's field.
+pub fn bits_in(b: &[u8]) -> Bits
     ensures { λ r. ⌜ (r .0 ≡ bitsIn (now (b .entry))) × (r .0 < 2 ^ 32) ⌝ }
 {
     Bits(be32(b, 66) as u64)

@@ -4,7 +4,7 @@ use mathlib.Core.Path.{_≡_, refl, ap}
 use mathlib.Core.Bool.{true, false, not}
 use mathlib.Core.List.{List}
 use mathlib.Core.Logic.{_⊎_, ⊎-elim, _↔_}
-use Prim.Native.Nat.{ℕ, zero, suc, _+_, _*_, _/_, _%_, _^_, _≤_, _<_}
+use Prim.Native.Nat.{ℕ, zero, suc, _+_, _-_, _*_, _/_, _%_, _^_, _≤_, _<_}
 use native.Mathlib.Nat.{lt-of-lt-of-le}
 use native.Mathlib.Decide.{decLe}
 use native.Mathlib.Numerals.{add-one}
@@ -15,12 +15,14 @@ use lib.Pow.{pow-mono}
 use lib.Seq.{slice}
 use borrow.Author.Tests.{not-true, not-false, eqb-true, eqb-false, eq-eqb, le-leb, leb-true, le-ltb, ltb-false, ltb-true}
 use Rattle.answer.specs.declared.Group.{Group}
-use Rattle.answer.specs.Paper.{accepted, first}
+use Rattle.answer.specs.Paper.{gives, accepted, first}
 use Rattle.answer.proofs.Laws.{both, not-refused, each-passed, all-passed}
 use Rattle.answer.proofs.Tests.{not-other, never-both}
 use Rattle.number.specs.Numbers.{maxBytes}
 use Rattle.bits.specs.Bits.{touched, spelled}
+use Rattle.bits.specs.Positions.{endPos}
 use Rattle.bits.proofs.Bits.{value-lt}
+use Rattle.bits.proofs.Positions.{end-at}
 use Rattle.sheet.specs.Blocks.{blockCount, blockAt, fieldCount}
 use Rattle.types.specs.declared.BuiltinTypes.{BuiltinTypes}
 use Rattle.types.specs.Types.{isSlice}
@@ -139,6 +141,13 @@ module _ (s : List ℕ) (fields-ok : fieldsCheck s ≡ accepted) (header-ok : he
   pub good : Good (layoutOf s)
   unfolding layoutOf
   good = good-listed (headerField s) (fieldCount s) good-field (laid s header-ok .whole)
+
+  -- each field ends with its last bit
+  pub field-end : (i : ℕ) → i < fieldCount s → endPos (startAt s i) (widthOf (fieldAt s i)) ≡ gives (startAt s i + widthOf (fieldAt s i) - 1)
+  field-end i h =
+      let some = good-field i h .some in
+      let short = laid s header-ok .most in
+      end-at (startAt s i) (widthOf (fieldAt s i)) (λ e. omega arith) (omega (arith, field-inside s i h))
 
   -- so demand 3 holds of it
   pub demanded : Demand (layoutOf s)

@@ -100,7 +100,7 @@ fn bits_before(s: &[u8], n: usize) -> Bits
     let mut sum: u64 = 0;
     let mut i = 0;
     while i < n {
-        sum += field_at(s, i).bit.0;
+        sum += fields::bits_in(sheet::block(s, i)).0;
         i += 1;
     }
     Bits(sum)
@@ -147,15 +147,15 @@ fn refuse(test: bool, fault: HeaderFault, i: usize) -> Verdict
 }
 
 // Header 1 to 5 of field i: by whether its name was used before, its name, where it starts and what it is.
-fn field_fault(used: bool, wanted: &[u8], start: Bits, f: Field, i: usize) -> Verdict
+fn field_fault(used: bool, called: &[u8], start: Bits, f: Field, i: usize) -> Verdict
     requires { ⌜ start .0 + f .bit .0 < 2 ^ 64 ⌝ }
-    ensures { λ r. ⌜ paper r ≡ faultsOf used (now (wanted .entry)) (start .0) f i ⌝ }
+    ensures { λ r. ⌜ paper r ≡ faultsOf used (now (called .entry)) (start .0) f i ⌝ }
 {
     let at = BitPos::new(start);
     let bit = f.bit;
     let repr = f.repr;
     let again = refuse(used, HeaderFault::NameUsedBefore, i);
-    let reserved = refuse(is_reserved(wanted), HeaderFault::NameReserved, i);
+    let reserved = refuse(is_reserved(called), HeaderFault::NameReserved, i);
     let spread = refuse(over_eight(at, bit), HeaderFault::TouchesOverEightBytes, i);
     let off = refuse(off_boundary(at, repr), HeaderFault::SliceOffByteBoundary, i);
     let long = refuse(
@@ -175,9 +175,9 @@ impl Header {
         let mut bits = Bits(0);
         let mut i = 0;
         while i < n {
-            let wanted = name(sheet::block(s, i));
+            let called = name(sheet::block(s, i));
             let f = field_at(s, i);
-            let v = field_fault(used_before(s, wanted, i), wanted, bits, f, i);
+            let v = field_fault(used_before(s, called, i), called, bits, f, i);
             if let Verdict::Refused(reason) = v {
                 return NewHeader::Refused(reason);
             }

@@ -19,12 +19,12 @@ loop-holds c = (omega arith, omega (arith, position-none (headerField (c .before
 
 loop-again : tie.Need-loop-again Inv-loop μ-loop
 loop-again c =
-    let k = c .before .before .before in
+    let k = c .before .before .before .before in
     let s = k .before .before .args .s .now in
-    let f = c .before .field-at .ensures in (
+    let bits = c .before .bits-in .ensures in (
       omega arith,
-      rw (k .loop .inv .1, f .0) (sym (position-more (headerField s) (k .loop .i))),
-      omega (arith, f .1),
+      rw (k .loop .inv .1, bits .0, c .before .before .block .ensures) (sym (position-more (headerField s) (k .loop .i))),
+      omega (arith, bits .1),
     )
 
 returns : tie.Need-returns Inv-loop μ-loop
@@ -41,7 +41,8 @@ bits-before-spec =
     μ-loop
     loop-holds
     (λ c κs. search needs)
-    (λ c. omega (arith, c .before .field-at .ensures .1))
+    (λ c κs. search needs)
+    (λ c. omega (arith, c .before .bits-in .ensures .1))
     (λ c. omega arith)
     (λ c. omega arith)
     loop-again
