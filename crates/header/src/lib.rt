@@ -14,7 +14,9 @@ ghost use mathlib.Core.Path.{_≡_};
 ghost use Prim.Native.Nat.{_+_, _≤_, _<_, _^_};
 ghost use Rattle.answer.specs.declared.Group.{Group};
 ghost use Rattle.answer.specs.Paper.{headerNumber, paper, refuse as refusedIf};
+ghost use Rattle.octets.specs.Octets.{same};
 ghost use Rattle.bits.specs.Positions.{globalOf};
+ghost use Rattle.blocks.specs.Layout.{nameOf};
 ghost use Rattle.sheet.specs.Sheet.{isSome};
 ghost use Rattle.fields.specs.Step.{fieldAt};
 ghost use Rattle.header.specs.Names.{namedAmong, fieldNamed, indexOf, isReserved};
@@ -46,13 +48,19 @@ pub enum NewHeader {
 
 // ---- names
 
+fn has_name(b: &[u8], wanted: &[u8]) -> bool
+    ensures { λ r. ⌜ r ≡ same (nameOf (now (b .entry))) (now (wanted .entry)) ⌝ }
+{
+    same_bytes(name(b), wanted)
+}
+
 // The first of the first n fields that has a name.
 fn named_among(s: &[u8], wanted: &[u8], n: usize) -> FieldIndex
     ensures { λ r. ⌜ indexOf r ≡ namedAmong (now (s .entry)) (now (wanted .entry)) n ⌝ }
 {
     let mut i = 0;
     while i < n {
-        if same_bytes(name(sheet::block(s, i)), wanted) {
+        if has_name(sheet::block(s, i), wanted) {
             return FieldIndex::At(i);
         }
         i += 1;

@@ -17,21 +17,21 @@ abbrev μ-loop : tie.MeasureT-loop
 μ-loop s wanted n i₀ i = n - i
 
 -- what the test says of field i
-tested : (c : tie.After-same-bytes Inv-loop μ-loop)
-    → same (nameAt (c .before .before .before .before .before .before .before .args .s .now) (c .before .before .before .before .loop .i)) (c .before .before .before .before .before .before .before .args .wanted .now) ≡ c .same-bytes .result
-tested c = rw (c .same-bytes .ensures, c .before .name .ensures, c .before .before .block .ensures)
+tested : (c : tie.After-has-name Inv-loop μ-loop)
+    → same (nameAt (c .before .before .before .before .before .before .args .s .now) (c .before .before .before .loop .i)) (c .before .before .before .before .before .before .args .wanted .now) ≡ c .has-name .result
+tested c = rw (c .has-name .ensures, c .before .block .ensures)
 
 loop-holds : tie.Need-loop-holds Inv-loop μ-loop
 loop-holds c = (omega arith, where-none _)
 
 returns : tie.Need-returns Inv-loop μ-loop
 returns c =
-    let k = c .before .before .before .before .before in
+    let k = c .before .before .before .before in
     sym (where-at _ _ _ (omega arith) (k .loop .inv .1) (tested (c .before) ∙ c .if1 .taken))
 
 loop-again : tie.Need-loop-again Inv-loop μ-loop
 loop-again c =
-    let k = c .before .before .before .before .before in
+    let k = c .before .before .before .before in
     (omega arith, where-more _ _ (k .loop .inv .1) (tested (c .before) ∙ c .if1 .left))
 
 returns-2 : tie.Need-returns-2 Inv-loop μ-loop
@@ -44,7 +44,6 @@ named-among-spec =
     Inv-loop
     μ-loop
     loop-holds
-    (λ c κs. search needs)
     (λ c κs. search needs)
     (λ c κs. search needs)
     returns
