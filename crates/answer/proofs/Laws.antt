@@ -43,6 +43,10 @@ pub both : (x y : Check) → (x andThen y) ≡ accepted → (x ≡ accepted) × 
 both (gives _) y e = (refl, e)
 both (refused g n at) y e = (cc, cc)
 
+-- a refusal is no consent
+pub never-accepted : {x : Check} {g : Group} {n at : ℕ} → x ≡ refused g n at → x ≡ accepted → ⊥
+never-accepted r a = let z : _≡_ {A = ℕ} 0 1 = cc in omega arith
+
 -- a check that passed does so because its test does not hold
 pub not-refused : (test : Bool) (g : Group) (n at : ℕ) → refuse test g n at ≡ accepted → test ≡ false
 not-refused true g n at e = cc

@@ -1,25 +1,25 @@
 -- What the functions on runs ask: a run cut out of a window of 64 bits and pasted into it, bytes stored one after the other, whether a run fits.
 -- Assumes nothing.
 use mathlib.Core.Path.{_≡_, refl, sym, ap, _∙_, subst}
-use mathlib.Core.Bool.{Bool, true, false, cond}
+use mathlib.Core.Bool.{Bool, true, false, cond, not}
 use mathlib.Core.List.{List, []}
 use Prim.Native.Nat.{ℕ, _+_, _-_, _*_, _/_, _%_, _^_, _≤_, _<_}
 use native.Mathlib.Nat.{mul-div-mul-right, mod-lt, mod-eq-of-lt, mod-one, lt-of-lt-of-le, add-mul, div-one, div-eq-of-lt}
 use native.Mathlib.Decide.{decLt, ℕ-discrete}
 use native.Mathlib.Omega.{arith}
 use lib.Arith.{digits-lt}
-use lib.Dec.{leb, ltb, eqb}
+use lib.Dec.{ltb, eqb}
 use lib.ListN.{length, take, drop, set, length-set}
 use lib.Pow.{field, pow-pos, pow-mono, pow-add, split, shr-shr, shr-lt, shl-exact, high, low}
 use lib.Seq.{getD-set-same, getD-set-other}
-use borrow.Author.Tests.{lt-ltb, le-ltb, le-leb, lt-leb, eq-eqb, ne-eqb}
+use borrow.Author.Tests.{leb-true, not-true, not-false, lt-ltb, le-ltb, le-leb, lt-leb, eq-eqb, ne-eqb}
 use Rattle.octets.specs.Octets.{AreBytes, byte, be}
 use Rattle.bits.specs.declared.Fit.{Fit}
 use Rattle.bits.specs.declared.NumberWrite.{NumberWrite}
 use Rattle.bits.specs.declared.BytesWrite.{BytesWrite}
 use Rattle.bits.specs.Bits.{bit, num, value, touched}
 use Rattle.bits.specs.Writes.{newBit, put}
-use Rattle.bits.specs.Runs.{fitOf, readAs, readNumber, writeAs, writeAnswer, bytesAt, bytesAnswer, pasted}
+use Rattle.bits.specs.Runs.{fitOf, readAs, readNumber, writeAs, writeAnswer, holdsBytes, bytesAt, bytesAnswer, BytesWritten, pasted}
 use Rattle.bits.proofs.Num.{num-ext, num-digits, num-split, num-first, num-at}
 use Rattle.bits.proofs.Bits.{bit-same, value-lt, value-byte, value-be}
 use Rattle.bits.proofs.Put.{by-run, new-before, new-in, new-after, new-lt, put-ext, put-length, put-bytes}
@@ -275,10 +275,15 @@ write-large n s w v e h = write-is n s w v Fit.Fits e ∙ ap (λ (t : Bool). con
 pub write-done : (n s w v : ℕ) → fitOf n s w ≡ Fit.Fits → ltb v (2 ^ w) ≡ true → writeAnswer n s w v ≡ NumberWrite.Done
 write-done n s w v e h = write-is n s w v Fit.Fits e ∙ ap (λ (t : Bool). cond t NumberWrite.Done NumberWrite.TooLarge) h
 
-pub bytes-done : (b : List ℕ) (f n : ℕ) → leb (f + n) (length b) ≡ true → bytesAnswer b f n ≡ BytesWrite.Done
-unfolding bytesAnswer
-bytes-done b f n h = rw h
+-- of whole bytes, by whether the run lies in the buffer, as the program's test has it
+module _ (b : List ℕ) (f n : ℕ) {inside : Bool} (is : inside ≡ holdsBytes b f n) where
+  pub bytes-outside : (v : ℕ) → not inside ≡ true → BytesWritten b b f n v BytesWrite.Outside
+  unfolding bytesAnswer
+  bytes-outside v h = record { answer = rw (← is, not-true inside h); bytes = refl }
 
-pub bytes-outside : (b : List ℕ) (f n : ℕ) → leb (f + n) (length b) ≡ false → bytesAnswer b f n ≡ BytesWrite.Outside
-unfolding bytesAnswer
-bytes-outside b f n h = rw h
+  pub bytes-within : not inside ≡ false → f + n ≤ length b
+  bytes-within h = leb-true (f + n) (length b) (sym is ∙ not-false inside h)
+
+  pub bytes-done : (v : ℕ) {c : List ℕ} → not inside ≡ false → c ≡ put b (8 * f) (8 * n) v → BytesWritten b c f n v BytesWrite.Done
+  unfolding bytesAnswer
+  bytes-done v h e = record { answer = rw (← is, not-false inside h); bytes = e }

@@ -18,6 +18,7 @@ use Rattle.answer.specs.declared.Group.{Group}
 use Rattle.answer.specs.Paper.{gives, accepted, first}
 use Rattle.answer.proofs.Laws.{both, not-refused, each-passed, all-passed}
 use Rattle.answer.proofs.Tests.{not-other, never-both}
+use Rattle.octets.proofs.Laws.{same-is-not}
 use Rattle.number.specs.Numbers.{maxBytes}
 use Rattle.bits.specs.Bits.{touched, spelled}
 use Rattle.bits.specs.Positions.{endPos}
@@ -40,7 +41,7 @@ use Rattle.header.specs.Names.{nameAt, typeWord}
 use Rattle.header.specs.Places.{defaultNumber, headerField, layoutOf, startAt, bitsOf}
 use Rattle.header.specs.Step.{usedBefore, faultsOf, fieldFault, headerCheck}
 use Rattle.header.specs.Laid.{Laid}
-use Rattle.header.proofs.Names.{differs, none-named}
+use Rattle.header.proofs.Names.{none-named}
 use Rattle.header.proofs.Places.{field-inside}
 use Rattle.header.proofs.Step.{Passed, passed-all}
 
@@ -64,7 +65,7 @@ module _ (s : List ℕ) (ok : headerCheck s ≡ accepted) where
   pub laid : Laid s
   laid = record {
     own-names = λ i j l h e. none-named s (nameAt s j) j .0 (of-field j h .new-name) i l e;
-    not-type = λ i h. differs (nameAt s i) typeWord .0 (of-field i h .free-name);
+    not-type = λ i h. same-is-not (nameAt s i) typeWord .0 (of-field i h .free-name);
     eight-bytes = λ i h l. ltb-false 8 _ (not-other (of-field i h .eight) (le-leb (widthOf (fieldAt s i)) 64 l));
     on-boundary = λ i h e. eqb-true (startAt s i % 8) 0 (not-false _ (not-other (of-field i h .boundary) (ap isSlice e)));
     whole = eqb-true (bitsOf s % 8) 0 (checks .1);
@@ -80,7 +81,7 @@ module _ (s : List ℕ) (l : Laid s) where
       let f = fieldAt s i in
       rw (
         none-named s (nameAt s i) i .1 (λ j b. l .own-names j i b h),
-        differs (nameAt s i) typeWord .1 (l .not-type i h),
+        same-is-not (nameAt s i) typeWord .1 (l .not-type i h),
         never-both (leb (widthOf f) 64) (ltb 8 (touched (startAt s i) (widthOf f))) (λ p q. omega (arith, ltb-true 8 (touched (startAt s i) (widthOf f)) q, l .eight-bytes i h (leb-true (widthOf f) 64 p))),
         never-both (isSlice (f .repr)) (not (eqb (startAt s i % 8) 0)) (λ p q. eqb-false (startAt s i % 8) 0 (not-true _ q) (l .on-boundary i h (same-type (f .repr) BuiltinTypes.ByteSlice p))),
         le-ltb maxBytes ((startAt s i + widthOf f) / 8) (omega (arith, field-inside s i h, l .most)),

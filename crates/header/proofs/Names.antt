@@ -1,34 +1,24 @@
--- Laws of names: what a lookup finds and what it does not, a name used before, the reserved name. Assumes nothing.
-use mathlib.Core.Path.{_≡_, refl, sym, ap, _∙_}
-use mathlib.Core.Bool.{Bool, true, false, true≢false}
+-- Laws of names: exactly when a lookup finds nothing, and exactly which field it finds; and that its answer is one. Assumes nothing.
+use mathlib.Core.Path.{_≡_, refl, ap}
+use mathlib.Core.Bool.{true, false, true≢false}
 use mathlib.Core.List.{List}
 use mathlib.Core.Logic.{_↔_}
 use mathlib.Core.Option.{Option, none, some}
 use Prim.Native.Nat.{ℕ, _<_}
-use Rattle.octets.specs.Octets.{same}
-use Rattle.octets.proofs.Laws.{same-is}
+use Rattle.octets.proofs.Laws.{same-is, same-is-not}
 use Rattle.sheet.specs.Sheet.{isSome}
 use Rattle.sheet.specs.Blocks.{fieldCount}
 use Rattle.sheet.proofs.Walk.{where-at, where-found, where-nowhere, where-nothing}
 use Rattle.header.specs.declared.FieldIndex.{FieldIndex}
 use Rattle.header.specs.Names.{nameAt, namedAmong, fieldNamed, indexOf}
 
--- ---- equal names
-
-pub differs : (s t : List ℕ) → (same s t ≡ false) ↔ (s ≡ t → ⊥)
-differs s t = (λ e q. true≢false (sym (same-is s t .1 q) ∙ e), λ n. decided (same s t) refl n)
-  where
-    decided : (b : Bool) → same s t ≡ b → (s ≡ t → ⊥) → b ≡ false
-    decided true e n = absurd (n (same-is s t .0 e))
-    decided false e n = refl
-
 module _ (s name : List ℕ) where
   -- ---- nothing is found exactly where no field has the name
 
   pub none-named : (n : ℕ) → (isSome (namedAmong s name n) ≡ false) ↔ ((i : ℕ) → i < n → nameAt s i ≡ name → ⊥)
   none-named n = (
-    λ e i h. differs (nameAt s i) name .0 (where-nowhere _ n (nothing (namedAmong s name n) e) i h),
-    λ h. ap isSome (where-nothing _ n (λ i l. differs (nameAt s i) name .1 (h i l))),
+    λ e i h. same-is-not (nameAt s i) name .0 (where-nowhere _ n (nothing (namedAmong s name n) e) i h),
+    λ h. ap isSome (where-nothing _ n (λ i l. same-is-not (nameAt s i) name .1 (h i l))),
   )
     where
       nothing : (found : Option ℕ) → isSome found ≡ false → found ≡ none
@@ -46,9 +36,9 @@ module _ (s name : List ℕ) where
   found-is i = (
     λ e.
         let at = where-found _ (fieldCount s) i e in
-        record { there = at .0; has = same-is (nameAt s i) name .0 (at .1); before = λ j h. differs (nameAt s j) name .0 (where-nowhere _ i (at .2) j h) },
+        record { there = at .0; has = same-is (nameAt s i) name .0 (at .1); before = λ j h. same-is-not (nameAt s j) name .0 (where-nowhere _ i (at .2) j h) },
     λ f.
-        where-at _ i (fieldCount s) (f .there) (where-nothing _ i (λ j h. differs (nameAt s j) name .1 (f .before j h))) (same-is (nameAt s i) name .1 (f .has)),
+        where-at _ i (fieldCount s) (f .there) (where-nothing _ i (λ j h. same-is-not (nameAt s j) name .1 (f .before j h))) (same-is (nameAt s i) name .1 (f .has)),
   )
 
 -- ---- one answer: what the program's answer says of a name tells answers apart

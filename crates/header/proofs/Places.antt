@@ -3,14 +3,13 @@
 use mathlib.Core.Path.{_≡_, refl, ap}
 use mathlib.Core.List.{List}
 use Prim.Native.Nat.{ℕ, _+_, _≤_, _<_}
-use native.Mathlib.Omega.{arith}
 use lib.ListN.{length}
 use Rattle.bits.proofs.Positions.{position-one}
 use Rattle.sheet.specs.Blocks.{fieldCount}
 use Rattle.field.specs.Sound.{widthOf}
 use Rattle.fields.specs.Step.{fieldAt}
 use Rattle.layout.specs.Layout.{field, bits, start, In}
-use Rattle.layout.proofs.Places.{start-end, find, only}
+use Rattle.layout.proofs.Places as places
 use Rattle.layout.proofs.Listed.{position-later, length-listed, field-listed, bits-listed, start-listed}
 use Rattle.header.specs.declared.FieldStart.{FieldStart}
 use Rattle.header.specs.Places.{headerField, layoutOf, startAt, bitsOf, startIn}
@@ -44,9 +43,7 @@ module _ (s : List ℕ) where
 
   -- each bit of the header is in one field, and in no other
   pub one-field : (k : ℕ) → k < bitsOf s → (i : ℕ) × In (layoutOf s) i k × ((j : ℕ) → In (layoutOf s) j k → j ≡ i)
-  one-field k h =
-      let found = find (layoutOf s) (length (layoutOf s)) k (omega (arith, start-end (layoutOf s), layout-bits)) in
-      (found .0, found .2, λ j p. only (layoutOf s) (found .0) j k (found .2) p)
+  one-field k h = places.one-field (layoutOf s) k (rw layout-bits h)
 
 -- ---- one answer: what the program's answer says of a start tells answers apart
 

@@ -1,7 +1,7 @@
 -- Laws of big-endian numbers, of tests over a range and of two spans, with offset and count left open: for this crate's proofs and those of the
 -- crates above. Assumes nothing.
 use mathlib.Core.Path.{_≡_, refl, sym, ap, _∙_}
-use mathlib.Core.Bool.{Bool, true, false, _&&_}
+use mathlib.Core.Bool.{Bool, true, false, _&&_, true≢false}
 use mathlib.Core.List.{List, [], _∷_}
 use mathlib.Core.Logic.{_↔_}
 use Prim.Native.Nat.{ℕ, zero, suc, _+_, _-_, _*_, _^_, min, _≤_, _<_}
@@ -140,13 +140,16 @@ same-equal (x ∷ s) (y ∷ t) e = both (eqb x y) refl e (same-equal s t)
 pub same-is : (s t : List ℕ) → (same s t ≡ true) ↔ (s ≡ t)
 same-is s t = (same-equal s t, λ e. rw e (same-refl t))
 
+pub same-is-not : (s t : List ℕ) → (same s t ≡ false) ↔ (s ≡ t → ⊥)
+same-is-not s t = (λ e q. true≢false (sym (same-is s t .1 q) ∙ e), λ n. decided (same s t) refl n)
+  where
+    decided : (b : Bool) → same s t ≡ b → (s ≡ t → ⊥) → b ≡ false
+    decided true e n = absurd (n (same-equal s t e))
+    decided false e n = refl
+
 -- a walk over both from i on: other lengths, the end, one byte further
 pub same-lengths : (s t : List ℕ) → (length s ≡ length t → ⊥) → same s t ≡ false
-same-lengths s t n = decided (same s t) refl
-  where
-    decided : (b : Bool) → same s t ≡ b → b ≡ false
-    decided true e = absurd (n (ap length (same-equal s t e)))
-    decided false e = refl
+same-lengths s t n = same-is-not s t .1 (λ e. n (ap length e))
 
 module _ (s t : List ℕ) (i : ℕ) where
   pub same-end : length s ≤ i → length t ≤ i → same (drop i s) (drop i t) ≡ true

@@ -280,9 +280,11 @@ fn of_sheet(s: &[u8], facts: &[u8]) -> Reading {
 
 // ---- the template of one that passed step 3 too, built in a buffer that holds the filling and nothing else
 
+const FILLING: u8 = 165;
+
 // Room for the longest header, and 16 bytes more.
 fn large_filling() -> [u8; 4194319] {
-    [165; 4194319]
+    [FILLING; 4194319]
 }
 
 // Whether each byte from there on is the filling.
@@ -290,7 +292,7 @@ fn is_filling(buf: &[u8], from: usize) -> bool {
     let mut ok = true;
     let mut i = from;
     while i < buf.len() {
-        ok = ok & (buf[i] == 165);
+        ok = ok & (buf[i] == FILLING);
         i += 1;
     }
     ok
@@ -299,7 +301,7 @@ fn is_filling(buf: &[u8], from: usize) -> bool {
 fn fill_again(buf: &mut [u8]) {
     let mut i = 0;
     while i < buf.len() {
-        buf[i] = 165;
+        buf[i] = FILLING;
         i += 1;
     }
 }

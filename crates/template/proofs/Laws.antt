@@ -1,5 +1,5 @@
--- What filling a header asks: the bytes that a default states lie in its block, a field's default in its place is a `put`, the fields of a sheet that
--- passed can be filled one after the other; and the contract of the template allows one answer and one buffer. Assumes nothing.
+-- What filling one field asks: the bytes that a default states lie in its block, and what is written, a number or bytes or zeros, is the `put` of the
+-- default into the field's run. Assumes nothing.
 use mathlib.Core.Path.{_≡_, refl, sym, ap, _∙_}
 use mathlib.Core.Bool.{Bool, true, false, cond, not, _&&_, _||_, true≢false}
 use mathlib.Core.List.{List}

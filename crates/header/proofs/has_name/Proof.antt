@@ -4,7 +4,7 @@ use Rattle.header.proofs.has_name.Statement.{statement}
 use Rattle.header.proofs.has_name.Tie as tie
 
 returns : tie.Need-returns
-returns c = cc
+returns c = rw (c .same-bytes .ensures, c .before .name .ensures)
 
 pub has-name-spec : {M : Type 1} → statement M
 has-name-spec = tie.close (tie.spec (λ c κs. search needs) (λ c κs. search needs) returns)
