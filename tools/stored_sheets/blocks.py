@@ -170,6 +170,109 @@ def shaped_block(word, place):
                  SLICE if stated else 0)
 
 
+FIELD_WORD = re.compile(r"(\w+):(\d+)([sgabc]*)(?:=(\d+)(!?))?")
+OTHER_WORD = re.compile(r"([LTC])([012]?):?(\w+)?(?:=(.+))?")
+RANGE_WORD = re.compile(r"(\d*)\.\.(<?)(\d*)")
+FORM_WORDS = (
+    (1, re.compile(r"(\w+)")),
+    (2, re.compile(r"(\w+)\+(\d+)")),
+    (3, re.compile(r"(\w+)\*(\d+)")),
+    (4, re.compile(r"\((\w+)\+(\d+)\)\*(\d+)")),
+    (5, re.compile(r"(\w+)\*(\d+)\+(\d+)")))
+
+
+def told(text):
+    """The sheet of a short text of fields, lengths and conditions, one word to a block.
+
+    `x:8` is a field x of 8 bits whose gen is false. After the width may come
+    `g` for gen true, `a` for gen absent, `s` for the repr byte slice, `b` for
+    the arg bool and `c` for the arg code; then `=5` for the default 5 and
+    `=5!` for the same fixed. `|` is a field that fills the last byte, and
+    nothing where it is full.
+
+    `L0=x*4` is an L block of slot 0 and the form that is written, `L0` alone
+    one of form 0, `T0=4*x` one of slot 0 with a tree. `C:x` is a C block
+    without ranges, `C:x=3..7,9..<12,..` one with three. A range without a
+    start or an end has none.
+    """
+    blocks, bits = [], 0
+    for word in text.split():
+        found = FIELD_WORD.fullmatch(word)
+        if found:
+            bits += int(found.group(2))
+            blocks.append(told_field(*found.groups()))
+        elif word != "|":
+            blocks.append(told_other(word))
+        elif bits % 8 != 0:
+            blocks.append(field(b"_", 8 - bits % 8))
+    return b"".join(blocks)
+
+
+def told_field(name, bits, marks, default, fixed):
+    made = dict(gen=2 if "g" in marks else 0 if "a" in marks else 1,
+                repr=SLICE if "s" in marks else 0,
+                arg=BOOL if "b" in marks else CODE if "c" in marks else 0)
+    if default is not None:
+        made.update(kind=NUMBER, number=int(default), fixed=int(fixed == "!"))
+    return field(name.encode(), int(bits), **made)
+
+
+def told_other(word):
+    letter, slot, name, rest = OTHER_WORD.fullmatch(word).groups()
+    if letter == "C":
+        return condition(name.encode(), told_ranges(rest) if rest else ())
+    if letter == "T":
+        return planted(rest, slot=int(slot))
+    if rest is None:
+        return length(slot=int(slot), form=0)
+    for form, shape in FORM_WORDS:
+        found = shape.fullmatch(rest)
+        if found:
+            return length(found.group(1).encode(), int(slot), form,
+                          *[int(number) for number in found.groups()[1:]])
+    raise ValueError(word)
+
+
+def told_ranges(text):
+    spans = []
+    for part in text.split(","):
+        start, less, end = RANGE_WORD.fullmatch(part).groups()
+        spans.append((int(start != ""), 0 if end == "" else 2 if less else 1,
+                      int(start or 0), int(end or 0)))
+    return spans
+
+
+def planted(text, **other):
+    """An L block with the tree of a text, each operator after its two parts.
+
+    Two parts that are no leaves stand in brackets. The block has the name of
+    the field that the text names, x where it names none.
+    """
+    words, nodes, names = re.findall(r"\w+|[-+*/()]", text), [], []
+
+    def part():
+        word = words.pop(0)
+        if word == "(":
+            index = whole()
+            words.pop(0)
+            return index
+        if not word.isdigit():
+            names.append(word.encode())
+        nodes.append((0, 0, 0, int(word)) if word.isdigit() else (1, 0, 0, 0))
+        return len(nodes) - 1
+
+    def whole():
+        left = part()
+        if not words or words[0] == ")":
+            return left
+        kind = 2 + "+-*/".index(words.pop(0))
+        nodes.append((kind, left, part(), 0))
+        return len(nodes) - 1
+
+    whole()
+    return tree(*nodes, name=names[0] if names else b"x", **other)
+
+
 def written(text):
     """The fields of a text of defaults, one word to a field, named by their places.
 

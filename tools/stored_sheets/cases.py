@@ -3,9 +3,12 @@
 import sys
 from collections import namedtuple
 
+import lengths_and_conds
 import rules
-from blocks import shaped, spelled
-from rules import ACCEPTED, BLOCK, FIELD, HEADER, SHEET, answer, resolved
+from answers import answer
+from blocks import shaped, spelled, told
+from lengths_and_conds import COND, LENGTH
+from rules import ACCEPTED, BLOCK, FIELD, HEADER, SHEET, resolved
 
 Case = namedtuple("Case", "title sheet expected source")
 
@@ -15,32 +18,34 @@ STATED = {
     "starts": lambda sheet: rules.starts(sheet),
     "lookups": lambda sheet: rules.lookups(sheet),
     "template": lambda sheet: rules.template(sheet),
+    "lengths": lambda sheet: lengths_and_conds.lengths(sheet),
+    "ranges": lambda sheet: lengths_and_conds.ranges(sheet),
 }
 
 
 class Cases(list):
     """The list of cases. Each new one is held against `answer`.
 
-    The answers stated are those of steps 1 to `steps`. Where they stop at
-    step 2 and it accepts, the answer of step 3 comes from `answer`.
+    The answers stated are those of steps 1 to `steps`. Where they stop before
+    step 5 and accept, the answer of the steps after comes from `answer`.
     """
 
     def __init__(self):
         super().__init__()
-        self.steps = 3
+        self.steps = 5
         self.titles = set()
 
     def add(self, title, sheet, expected, source="hand", **stated):
-        """Adds a case. `stated` may hold the first field, resolved by hand, and
-        the starts, the lookups and the template."""
+        """Adds a case. `stated` may hold the first field, resolved by hand, the
+        starts, the lookups, the template, the lengths and the ranges."""
         sheet = sheet if isinstance(sheet, bytes) else b"".join(sheet)
         self.hold(title, "answer", expected, answer(sheet, self.steps))
         for what, value in stated.items():
             self.hold(title, what, value, STATED[what](sheet))
         if title in self.titles:
             sys.exit(f"case {len(self)}: the title ({title}) is used twice")
-        if self.steps == 2 and expected == ACCEPTED and source != "computed":
-            source += " to step 2"
+        if self.steps < 5 and expected == ACCEPTED and source != "computed":
+            source += f" to step {self.steps}"
         self.titles.add(title)
         self.append(Case(title, sheet, answer(sheet), source))
 
@@ -64,11 +69,20 @@ class Cases(list):
     def header(self, number, title, *blocks, place=0, **stated):
         self.add(title, blocks, (HEADER, number, place), **stated)
 
+    def length(self, number, title, *blocks, place=0):
+        self.add(title, blocks, (LENGTH, number, place))
+
+    def cond(self, number, title, *blocks, place=0):
+        self.add(title, blocks, (COND, number, place))
+
     def spelled(self, text, expected, title=""):
         self.add(f"{title} [{text}]".strip(), spelled(text), expected)
 
     def shaped(self, text, expected, title="", **stated):
         self.add(f"{title} [{text}]".strip(), shaped(text), expected, **stated)
+
+    def told(self, text, expected, title="", **stated):
+        self.add(f"{title} [{text}]".strip(), told(text), expected, **stated)
 
 
 def brief(value):

@@ -3,8 +3,14 @@
 import struct
 import sys
 
+from answers import answer, facts
 from cases import Cases
 from changes import changed_bytes
+from cond_orders import (
+    cond_8_last, faults_in_two_entries, places_of_cond_faults, two_faults_in_one_entry)
+from conds import (
+    clipped_ranges, ends_of_ranges, entries_of_one_field, fields_of_conds, many_ranges,
+    numbers_of_entries, pairs_of_ranges, ranges_in_a_row, widths_of_conds)
 from fields import (
     allowed_combinations, bool_defaults, byte_defaults, misplaced_defaults,
     number_defaults, reprs_and_args, wide_widths, widths_to_72)
@@ -18,17 +24,30 @@ from layouts import (
     absent_ends, accepted_sheets, c_rules, check_words, f_codes, f_counts, f_numbers,
     flipped_bits, kind_bytes, l_codes, l_numbers, lengths_of_sheets, name_bytes,
     name_lengths, node_rules, operator_rules, range_25, trees, unnamed_bytes)
+from length_orders import (
+    an_undefined_slot_0, faults_in_two_slots, length_1_before_the_slots, length_12_first,
+    places_of_length_faults, step_1_before_steps_4_and_5, step_2_before_steps_4_and_5,
+    step_3_before_steps_4_and_5, step_4_before_step_5, two_faults_in_one_slot)
+from lengths import (
+    default_lengths, fields_of_lengths, forms_of_lengths, headers_of_lengths,
+    known_sheets, length_1, lengths_at_the_limit, lengths_at_the_top, names_of_lengths,
+    slices_of_lengths, slots_of_lengths, stated_types, undefined_slots,
+    widths_of_lengths)
 from mixed import mixed_headers
+from mixed_lengths import mixed_lengths_and_conds
 from orders import (
     faults_in_two_blocks, pairs_in_one_field, places_of_field_faults,
     places_of_sheet_2_and_3, places_of_sheet_4_to_6, second_slots, sheet_1_first,
     step_1_before_step_2, two_faults_in_one_block, two_field_faults)
 from packing import packed
-from rules import ACCEPTED, answer, facts
+from rules import ACCEPTED
 from templates import (
     each_width, kinds_of_numbers, known_headers, long_headers, names_looked_up,
     neighbours, positions, single_bits, slices_between, starts_and_widths,
     thirteen_bits, wide_numbers)
+from tree_forms import (
+    counts_of_nodes, faults_of_trees, larger_trees, loose_and_shared_nodes,
+    numbers_of_trees, places_of_length_12, places_of_nodes, shapes_of_trees, small_trees)
 
 # Sections whose cases state the answer of steps 1 and 2.
 SHEETS_AND_FIELDS = (
@@ -52,10 +71,32 @@ HEADERS = (
     wide_numbers, each_width, kinds_of_numbers, starts_and_widths, long_headers,
     positions, names_looked_up, mixed_headers)
 
+# Sections whose cases state the answer of steps 1 to 5: of lengths, of
+# conditions, and of both.
+LENGTHS = (
+    known_sheets, forms_of_lengths, widths_of_lengths, slices_of_lengths,
+    fields_of_lengths, stated_types, lengths_at_the_limit, lengths_at_the_top,
+    default_lengths, headers_of_lengths, undefined_slots, slots_of_lengths,
+    names_of_lengths, length_1,
+    shapes_of_trees, small_trees, larger_trees, places_of_nodes, loose_and_shared_nodes,
+    counts_of_nodes, numbers_of_trees, faults_of_trees, places_of_length_12,
+    places_of_length_faults, two_faults_in_one_slot, faults_in_two_slots,
+    an_undefined_slot_0, length_1_before_the_slots, length_12_first)
+
+CONDS = (
+    widths_of_conds, fields_of_conds, ends_of_ranges, pairs_of_ranges, clipped_ranges,
+    ranges_in_a_row, many_ranges, numbers_of_entries, entries_of_one_field,
+    places_of_cond_faults, two_faults_in_one_entry, faults_in_two_entries, cond_8_last)
+
+LENGTHS_AND_CONDS = (
+    step_4_before_step_5, step_3_before_steps_4_and_5, step_2_before_steps_4_and_5,
+    step_1_before_steps_4_and_5, mixed_lengths_and_conds)
+
 
 def all_cases():
     cases = Cases()
-    for steps, sections in ((2, SHEETS_AND_FIELDS), (3, HEADERS)):
+    for steps, sections in ((2, SHEETS_AND_FIELDS), (3, HEADERS), (5, LENGTHS),
+                            (5, CONDS), (5, LENGTHS_AND_CONDS)):
         cases.steps = steps
         for section in sections:
             section(cases)
@@ -71,6 +112,9 @@ def record(case):
     return struct.pack(">HHBBBH", *sizes, *case.expected, len(known)) + pack + known
 
 
+GROUPS = ("", "sheet", "field", "header", "length", "cond")
+
+
 def answer_name(expected):
     group, number, _ = expected
-    return ("accepted", f"sheet {number}", f"field {number}", f"header {number}")[group]
+    return "accepted" if expected == ACCEPTED else f"{GROUPS[group]} {number}"

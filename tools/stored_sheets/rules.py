@@ -1,12 +1,11 @@
-"""The rules of a sheet, its fields and its header, steps 1 to 3, and what a sheet holds.
+"""The rules of a sheet, its fields and its header, steps 1 to 3, and what these hold.
 
-Stated once, in the order of docs/RULES.md.
+Stated once, in the order of docs/RULES.md. Steps 4 and 5 are stated in
+lengths_and_conds.py, and answers.py goes over all five.
 """
 
 import struct
 from collections import namedtuple
-
-from packing import packed
 
 BLOCK = 512
 MOST_BLOCKS = 99
@@ -20,15 +19,6 @@ ACCEPTED = (0, 0, 0)
 ABSENT, U8, U16, U32, U64, SLICE, BOOL, CODE = range(8)
 # Default kinds.
 NUMBER, BYTES, TRUTH = 1, 2, 3
-
-
-def answer(sheet, last=3):
-    """Group, number and place of the first refusal of steps 1 to `last`."""
-    for step in (step_1, step_2, step_3)[:last]:
-        refusal = step(sheet)
-        if refusal != ACCEPTED:
-            return refusal
-    return ACCEPTED
 
 
 def blocks_of(sheet):
@@ -342,42 +332,3 @@ def template(sheet):
 def bit_mask(bit):
     """Bit 0 of a byte is its most significant one, bit 7 its least."""
     return 128 >> bit
-
-
-def field_facts(block):
-    found = resolved(block)
-    return struct.pack(">I6BQH", *found[:8], len(found.data)) + found.data
-
-
-def tree_facts(block):
-    """The 32 nodes of a form 6, each without its zero byte."""
-    out = b""
-    for start in range(88, 88 + 12 * 32, 12):
-        out += block[start:start + 3] + block[start + 4:start + 12]
-    return out
-
-
-def facts(sheet):
-    """The facts of a sheet that passes steps 1 and 2."""
-    blocks = blocks_of(sheet)
-    kinds = [block[0:1] for block in blocks]
-    slots = [255, 255, 255]
-    for place, block in enumerate(blocks):
-        if kinds[place] == b"L":
-            slots[block[66]] = place
-    out = bytes([kinds.count(b"F"), kinds.count(b"L"), kinds.count(b"C")])
-    out += bytes(slots)
-    for block in blocks:
-        out += block[1:2 + block[1]]
-    for kind, block in zip(kinds, blocks):
-        if kind == b"F":
-            out += field_facts(block)
-    for kind, block in zip(kinds, blocks):
-        if kind == b"L" and block[67] == 6:
-            out += tree_facts(block)
-    out += b"".join(struct.pack(">I", start) for start in starts(sheet))
-    out += bytes(lookups(sheet))
-    if step_3(sheet) == ACCEPTED:
-        pack = packed(template(sheet))
-        out += struct.pack(">IH", header_length(sheet), len(pack)) + pack
-    return out

@@ -1,17 +1,27 @@
-"""The tests of this program itself."""
+"""The tests of this program itself. Those of steps 4 and 5 are in later_tests.py."""
 
 import struct
 from unittest.mock import patch
 
+import answers
+import lengths_and_conds
 import rules
-from blocks import field, length, lister_sheet, rfc_791_sheet, shaped, tree
+from answers import STEPS, answer, facts
+from blocks import field, length, lister_sheet, rfc_791_sheet, shaped, told, tree
 from cases import Cases
+from later_tests import (
+    check_forward, check_known_lengths, check_lengths_and_conds, check_lengths_told,
+    check_places, check_ranges_told)
 from layouts import LEAF, X
+from lengths_and_conds import COND, LENGTH
 from packing import packed, unpacked
-from records import HEADERS, all_cases, answer_name, record
+from reading import read
+from records import CONDS, HEADERS, LENGTHS, all_cases, answer_name, record
 from rules import (
-    ACCEPTED, BLOCK, BYTES, CODE, HEADER, SLICE, answer, blocks_of, facts, fields_of,
+    ACCEPTED, BLOCK, BYTES, CODE, FIELD, HEADER, SHEET, SLICE, blocks_of, fields_of,
     header_length, name_of, ones_complement_sum, resolved, starts, step_3, template)
+from wrong_conds import WRONG_CONDS, WRONG_IN_BOTH, WRONG_STEPS_5
+from wrong_lengths import WRONG_LENGTHS, WRONG_STEPS_4
 
 # The facts of the lister's sheet, written by hand.
 LISTER_FACTS = """
@@ -25,10 +35,14 @@ LISTER_FACTS = """
 00000000 00000004 00000008 00000014 00000015
 00 01 02 03 04 01 02 00
 00000003 0006 0000 03 41000d
+02 03 0000000000000004 0000000000000000 000000000000003c 0000000000000004
+00
+02 01 0000000000000000 0000000000000000 0000000000000fff 0000000000000000
+01 0000000000000004 0000000000000004
 """
 
 # The facts of a sheet of three blocks: a byte slice with a stated default, a
-# tree x*3 in slot 1, and an undefined slot 0.
+# tree x*3 in slot 1, and an undefined slot 0. Step 4 refuses it: there is no x.
 SMALL_FACTS = """
 010200 02 01 ff
 0161 0178 00
@@ -40,6 +54,29 @@ SMALL_FACTS = """
 00000000
 00 ff ff
 00000002 0005 0000 02 6162
+"""
+
+# The facts of 4 and 4 bits, x the second of them with the default 1, a tree
+# 2+3*x in slot 0, slot 2 undefined, and C on the first with two ranges. After
+# those of the blocks and the header come slots and ranges.
+TREE_FACTS = """
+020201 03 ff 02
+0161 0178 00 0178 0161
+00000004 01 01 00 00 01 01 0000000000000000 0000
+00000004 01 01 00 00 01 01 0000000000000001 0000
+00 00 00 0000000000000002
+00 00 00 0000000000000003
+01 00 00 0000000000000000
+04 01 02 0000000000000000
+02 00 03 0000000000000000
+""" + "00" * 11 * 27 + """
+00000000 00000004
+00 01 ff 01 00
+00000001 0004 0000 01 01
+02 05 0000000000000003 0000000000000002 000000000000002f 0000000000000005
+00
+01
+02 0000000000000000 0000000000000002 0000000000000009 000000000000000f
 """
 
 # The facts of a sheet that step 3 refuses: 3 and 9 bits named a, with C on a
@@ -58,12 +95,18 @@ def check_facts():
     assert facts(b"".join(lister_sheet())) == bytes.fromhex(LISTER_FACTS)
     small = field(b"a", 16, SLICE, CODE, 1, BYTES, data=b"ab")
     small += tree(X, LEAF, (4, 0, 1, 0), name=b"x", slot=1) + length(form=0)
-    assert answer(small) == ACCEPTED
+    assert answer(small, 3) == ACCEPTED and answer(small) == (LENGTH, 3, 1)
     assert facts(small) == bytes.fromhex(SMALL_FACTS)
+    full = told("a:4 x:4=1 L2 T0=2+(3*x) C:a=..<3,9..99")
+    assert answer(full) == ACCEPTED
+    assert facts(full) == bytes.fromhex(TREE_FACTS)
+    listed = told("a:4 x:4=1 L2 T0=2+(3*x) C:a=..<3,2..99")
+    assert answer(listed) == (COND, 6, 4)
+    assert facts(listed) == bytes.fromhex(TREE_FACTS)[:-33]
     refused = shaped("a:3 a:9 C:a C:b")
     assert answer(refused, 2) == ACCEPTED and answer(refused) == (HEADER, 1, 1)
     assert facts(refused) == bytes.fromhex(REFUSED_FACTS)
-    assert facts(b"") == bytes.fromhex("000000ffffff 00000000 0000")
+    assert facts(b"") == bytes.fromhex("000000ffffff 00000000 0000 000000")
 
 
 def check_known_headers():
@@ -108,41 +151,56 @@ def check_packing(cases):
 
 
 def check_records(cases):
-    """Reads the records back, one after another."""
-    content, at = b"".join(record(case) for case in cases), 0
-    for case in cases:
-        pack, size, *expected, known = struct.unpack_from(">HHBBBH", content, at)
-        at += 9
-        assert unpacked(content[at:at + pack], size) == case.sheet, case.title
-        assert tuple(expected) == case.expected == answer(case.sheet), case.title
-        assert (known != 0) == (case.expected[0] in (0, HEADER)), case.title
-        at += pack
-        if known != 0:
-            check_last_facts(case, content[at:at + known])
-        at += known
-    assert at == len(content)
-    assert len(content) < 900_000
+    """Reads the file back and holds what it tells against the cases."""
+    content = b"".join(record(case) for case in cases)
+    assert len(content) < 1_300_000
+    found = read(content)
+    assert len(found) == len(cases)
+    for case, (sheet, told_answer, known) in zip(cases, found):
+        assert sheet == case.sheet, case.title
+        assert told_answer == case.expected == answer(case.sheet), case.title
+        if told_answer[0] not in (SHEET, FIELD):
+            check_block_facts(case, known)
+            check_later_facts(case, known)
+        else:
+            assert known == {}, case.title
 
 
-def check_last_facts(case, known):
-    """Reads starts, lookups, length and template, which stand last in the facts."""
-    places, fields = range(len(blocks_of(case.sheet))), len(fields_of(case.sheet))
-    tail = b""
-    if case.expected == ACCEPTED:
-        pack = packed(template(case.sheet))
-        tail = known[len(known) - 6 - len(pack):]
-        size, count = struct.unpack_from(">IH", tail)
-        assert size == header_length(case.sheet) and count == len(pack), case.title
-        assert unpacked(tail[6:], size) == template(case.sheet), case.title
-    known = known[:len(known) - len(tail)]
-    found = known[len(known) - len(places):]
-    names = [name_of(block) for block in blocks_of(case.sheet)]
-    for place in places:
-        same = [i for i in range(fields) if names[i] == names[place]]
-        assert found[place] == min(same, default=255), case.title
-    known = known[:len(known) - len(found)]
-    begins = struct.unpack(f">{fields}I", known[len(known) - 4 * fields:])
-    assert list(begins) == starts(case.sheet), case.title
+def check_block_facts(case, known):
+    """Counts, slots, names, fields, trees, starts and lookups."""
+    blocks = blocks_of(case.sheet)
+    kinds, names = [block[0:1] for block in blocks], [name_of(block) for block in blocks]
+    assert known["counts"] == [kinds.count(kind) for kind in (b"F", b"L", b"C")], case.title
+    for slot, place in enumerate(known["slots"]):
+        given = [i for i, block in enumerate(blocks)
+                 if kinds[i] == b"L" and block[66] == slot]
+        assert given == ([] if place == 255 else [place]), case.title
+    assert known["names"] == names, case.title
+    assert known["fields"] == [resolved(block) for block in fields_of(case.sheet)]
+    grown = [block for block, kind in zip(blocks, kinds) if kind == b"L" and block[67] == 6]
+    for block, nodes in zip(grown, known["trees"]):
+        packs = [struct.pack(">3BxQ", *node) for node in nodes]
+        assert b"".join(packs) == block[88:88 + 32 * 12], case.title
+    assert known["starts"] == starts(case.sheet), case.title
+    for place, first in enumerate(known["lookups"]):
+        same = [i for i, name in enumerate(names)
+                if name == names[place] and kinds[i] == b"F"]
+        assert first == min(same, default=255), case.title
+
+
+def check_later_facts(case, known):
+    """Header and template, lengths, ranges: each as far as the steps accept."""
+    group = case.expected[0]
+    assert ("template" in known) == (group != HEADER), case.title
+    assert ("lengths" in known) == (group in (0, COND)), case.title
+    assert ("ranges" in known) == (group == 0), case.title
+    if "template" in known:
+        assert known["size"] == header_length(case.sheet), case.title
+        assert known["template"] == template(case.sheet), case.title
+    if "lengths" in known:
+        check_lengths_told(case, known["lengths"])
+    if "ranges" in known:
+        check_ranges_told(case, known["ranges"])
 
 
 def faults_of_header(sheet):
@@ -176,13 +234,14 @@ def check_headers(cases):
             if faults:
                 place, number = min(faults)
                 wanted = (HEADER, number, place)
-            assert step_3(case.sheet) == case.expected == wanted, case.title
+            assert step_3(case.sheet) == answer(case.sheet, 3) == wanted, case.title
 
 
 def check_templates(cases):
     """The template is the defaults written as digits, one field after another."""
     for case in cases:
-        if case.expected == ACCEPTED and header_length(case.sheet) < 100_000:
+        if (answer(case.sheet, 3) == ACCEPTED
+                and header_length(case.sheet) < 100_000):
             digits = "1"
             for block in fields_of(case.sheet):
                 found = resolved(block)
@@ -243,15 +302,26 @@ WRONG_RULES = (
 def check_wrong_rules():
     for name, wrong in WRONG_RULES:
         with patch.object(rules, name, wrong):
-            assert not cases_hold(), name
-    assert cases_hold()
+            assert not cases_hold(3, HEADERS), name
+    assert cases_hold(3, HEADERS)
+    for sections, parts, step, steps in ((LENGTHS, WRONG_LENGTHS, 4, WRONG_STEPS_4),
+                                         (CONDS, WRONG_CONDS, 5, WRONG_STEPS_5)):
+        for name, wrong in parts + WRONG_IN_BOTH:
+            with patch.object(lengths_and_conds, name, wrong):
+                assert not cases_hold(5, sections), (name, wrong)
+        for wrong in steps:
+            replaced = *STEPS[:step - 1], wrong, *STEPS[step:]
+            with patch.object(answers, "STEPS", replaced):
+                assert not cases_hold(5, sections), wrong
+        assert cases_hold(5, sections)
 
 
-def cases_hold():
-    """Whether the cases of step 3 can be made, each as it is stated."""
+def cases_hold(steps, sections):
+    """Whether the cases of these sections can be made, each as it is stated."""
     cases = Cases()
+    cases.steps = steps
     try:
-        for section in HEADERS:
+        for section in sections:
             section(cases)
     except SystemExit:
         return False
@@ -267,10 +337,16 @@ def check():
     check_records(cases)
     check_headers(cases)
     check_templates(cases)
+    check_forward()
+    check_known_lengths()
+    check_lengths_and_conds(cases)
+    check_places(cases)
     check_wrong_rules()
     labels = {answer_name(case.expected) for case in cases}
     wanted = {"accepted"} | {f"sheet {n}" for n in range(1, 7)}
     wanted |= {f"field {n}" for n in range(1, 8)}
     wanted |= {f"header {n}" for n in range(1, 7)}
+    wanted |= {f"length {n}" for n in (1, 3, 4, 5, 6, 7, 8, 9, 10, 12)}
+    wanted |= {f"cond {n}" for n in (1, 2, 4, 6, 7, 8)}
     assert labels == wanted
     print(f"{len(cases)} cases hold")

@@ -5,6 +5,9 @@ use answer::Refusal;
 use answer::Verdict;
 use bits::BytesWrite;
 use blocks::nodes::Node;
+use bounds::FirstLast;
+use expr::Length;
+use expr::UsableAlgExpr;
 use field::DefaultVal;
 use field::Field;
 use field::NewField;
@@ -15,6 +18,7 @@ use header::NewHeader;
 use libc::STDOUT_FILENO;
 use number::Bytes;
 use sheet::SlotBlock;
+use slots::LengthField;
 ghost use Prim.Native.Nat.{_≤_};
 ghost use lib.ListN.{length};
 ghost use Rattle.io.specs.Counts.{Counts};
@@ -112,6 +116,25 @@ impl Reading {
         self.four(facts, v / 4294967296).four(facts, v)
     }
 
+    // With one thing more that was right or not.
+    fn and(self, right: bool) -> Reading {
+        Reading {
+            at: self.at,
+            ok: self.ok & right,
+        }
+    }
+
+    // Past a count of 2 bytes and as many bytes. (Facts have at most 65,535.)
+    fn past(self, count: u16) -> Reading {
+        if 65535 < self.at {
+            return self.and(false);
+        }
+        Reading {
+            at: self.at + 2 + count as usize,
+            ok: self.ok,
+        }
+    }
+
     fn bytes(self, facts: &[u8], part: &[u8]) -> Reading {
         let mut r = self;
         let mut i = 0;
@@ -204,13 +227,15 @@ fn table(r: Reading, facts: &[u8], b: &[u8]) -> Reading {
     r
 }
 
-// What the facts have for each block: first all names, then all fields, all trees, all starts, and for each name the field that it means.
+// What the facts have for each block: first all names, then all fields, all trees, all starts, and for each name the field that it means; further on,
+// the ranges of all conditions.
 enum Section {
     Names,
     Fields,
     Trees,
     Starts,
     Lookups,
+    Ranges,
 }
 
 fn named(r: Reading, facts: &[u8], b: &[u8]) -> Reading {
@@ -249,6 +274,25 @@ fn looked_up(r: Reading, facts: &[u8], s: &[u8], b: &[u8]) -> Reading {
     }
 }
 
+fn range(r: Reading, facts: &[u8], s: &[u8], i: usize, k: u8) -> Reading {
+    match cond::range_numbers(s, i, k) {
+        FirstLast::Are(first, last) => r.eight(facts, first).eight(facts, last),
+        FirstLast::None => r.and(false),
+    }
+}
+
+fn ranges(r: Reading, facts: &[u8], s: &[u8], b: &[u8], i: usize) -> Reading {
+    if octets::byte_at(b, 0) != b'C' {
+        return r;
+    }
+    let n = octets::byte_at(b, 66);
+    let mut r = r.byte(facts, n);
+    for k in 0..n {
+        r = range(r, facts, s, i, k);
+    }
+    r
+}
+
 fn of_block(section: Section, r: Reading, facts: &[u8], s: &[u8], i: usize) -> Reading {
     let b = sheet::block(s, i);
     match section {
@@ -257,6 +301,7 @@ fn of_block(section: Section, r: Reading, facts: &[u8], s: &[u8], i: usize) -> R
         Section::Trees => tree(r, facts, b),
         Section::Starts => starts(r, facts, s, i),
         Section::Lookups => looked_up(r, facts, s, b),
+        Section::Ranges => ranges(r, facts, s, b, i),
     }
 }
 
@@ -340,7 +385,7 @@ fn is_room(v: Verdict, place: usize) -> bool {
         Verdict::Refused(r) => {
             let paper = r.on_paper();
             let group = paper.group;
-            (group_code(group) == 4) & (paper.number == 1) & (paper.place == place)
+            (group_code(group) == 6) & (paper.number == 1) & (paper.place == place)
         }
     }
 }
@@ -381,17 +426,53 @@ fn builds_longer(s: &[u8], buf: &mut [u8], packed: &[u8], len: usize) -> bool {
     is_built(s, &mut buf[..len + 16], packed, len)
 }
 
-// Whether the header is as long as the facts say, and its template what they have, with nothing left of them.
-fn of_header(s: &[u8], h: Header, r: Reading, facts: &[u8], buf: &mut [u8]) -> bool {
+// Whether the header is as long as the facts say, and its template what they have.
+fn of_header(s: &[u8], h: Header, r: Reading, facts: &[u8], buf: &mut [u8]) -> Reading {
     let len = h.len;
     let n = len.0 as usize;
     let r = r.four(facts, len.0);
     let rest = octets::part(facts, r.at, facts.len());
-    let q = octets::be16(rest, 0) as usize;
-    let packed = octets::part(rest, 2, 2 + q);
+    let q = octets::be16(rest, 0);
+    let packed = octets::part(rest, 2, 2 + q as usize);
     let refused = refuses_short(s, buf, n);
     let built = builds_longer(s, buf, packed, n);
-    r.ok & (rest.len() == 2 + q) & refused & built
+    r.and(refused & built).past(q)
+}
+
+// ---- the lengths of one that passed step 4 too
+
+fn form(r: Reading, facts: &[u8], e: UsableAlgExpr) -> Reading {
+    match e {
+        UsableAlgExpr::IdentOnly => r.byte(facts, 1).eight(facts, 0).eight(facts, 0),
+        UsableAlgExpr::SimpleAdd(a) => r.byte(facts, 2).eight(facts, a).eight(facts, 0),
+        UsableAlgExpr::SimpleMult(m) => r.byte(facts, 3).eight(facts, m).eight(facts, 0),
+        UsableAlgExpr::AddMult(a, m) => r.byte(facts, 4).eight(facts, a).eight(facts, m),
+        UsableAlgExpr::MultAdd(m, a) => r.byte(facts, 5).eight(facts, m).eight(facts, a),
+    }
+}
+
+fn length(r: Reading, facts: &[u8], l: Length) -> Reading {
+    match l {
+        Length::Is(n) => r.eight(facts, n.0),
+        Length::None => r.and(false),
+    }
+}
+
+fn held(r: Reading, facts: &[u8], s: &[u8], k: u8) -> Reading {
+    let held = slots::slot_of(s, k).held;
+    match held {
+        LengthField::Absent => r.byte(facts, 0),
+        LengthField::Undefined => r.byte(facts, 1),
+        LengthField::Expr(e) => {
+            let r = form(r.byte(facts, 2), facts, e);
+            let r = length(r, facts, length::largest_length(s, k));
+            length(r, facts, length::default_length(s, k))
+        }
+    }
+}
+
+fn of_lengths(s: &[u8], r: Reading, facts: &[u8]) -> Reading {
+    held(held(held(r, facts, s, 0), facts, s, 1), facts, s, 2)
 }
 
 // ---- the records
@@ -401,7 +482,9 @@ fn group_code(group: Group) -> u8 {
         Group::Sheet => 1,
         Group::Field => 2,
         Group::Header => 3,
-        Group::Room => 4,
+        Group::Length => 4,
+        Group::Cond => 5,
+        Group::Room => 6,
         _ => 99,
     }
 }
@@ -419,12 +502,38 @@ fn has_refusal(head: &[u8], reason: Refusal) -> bool {
     has_answer(head, group_code(group), paper.number, paper.place)
 }
 
-// Whether step 3 answers what the record has, three zeros for accepted, and the sheet holds what the facts say, with nothing left of them.
+// Whether a step refused as the record has it, with all facts read and right.
+fn ends_with(head: &[u8], reason: Refusal, r: Reading, facts: &[u8]) -> bool {
+    has_refusal(head, reason) & r.ok & (r.at == facts.len())
+}
+
+// Steps 5, 4 and 3, of a sheet that passed those before: whether each answers what the record has, three zeros for accepted, and what the sheet then
+// holds is what the facts say, with nothing left of them.
+fn fifth_step(s: &[u8], head: &[u8], r: Reading, facts: &[u8]) -> bool {
+    match cond::check(s) {
+        Verdict::Refused(reason) => ends_with(head, reason, r, facts),
+        Verdict::Accepted => {
+            let r = of_blocks(Section::Ranges, r, facts, s);
+            has_answer(head, 0, 0, 0) & r.ok & (r.at == facts.len())
+        }
+    }
+}
+
+fn fourth_step(s: &[u8], h: Header, head: &[u8], r: Reading, facts: &[u8]) -> bool {
+    match length::check(s, h) {
+        Verdict::Refused(reason) => ends_with(head, reason, r, facts),
+        Verdict::Accepted => fifth_step(s, head, of_lengths(s, r, facts), facts),
+    }
+}
+
 fn third_step(s: &[u8], head: &[u8], facts: &[u8], buf: &mut [u8]) -> bool {
     let r = of_sheet(s, facts);
     match Header::new(s) {
-        NewHeader::Refused(reason) => has_refusal(head, reason) & r.ok & (r.at == facts.len()),
-        NewHeader::Is(h) => has_answer(head, 0, 0, 0) & of_header(s, h, r, facts, buf),
+        NewHeader::Refused(reason) => ends_with(head, reason, r, facts),
+        NewHeader::Is(h) => {
+            let r = of_header(s, h, r, facts, buf);
+            fourth_step(s, h, head, r, facts)
+        }
     }
 }
 

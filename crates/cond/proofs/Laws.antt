@@ -1,0 +1,48 @@
+-- Laws of the ranges of a block: no start is excluded, so that emptiness and intersection of cut ranges are never refused. Assumes nothing.
+use mathlib.Core.Path.{_≡_, refl, ap, _∙_}
+use mathlib.Core.Bool.{Bool, true, false, cond, not, Bool·not-not}
+use mathlib.Core.List.{List}
+use Prim.Native.Nat.{ℕ, _+_, _*_}
+use native.Mathlib.Omega.{arith}
+use lib.Dec.{eqb}
+use Rattle.answer.specs.declared.Group.{Group}
+use Rattle.answer.specs.Paper.{Answer, gives, refused}
+use Rattle.octets.specs.Octets.{byte, be}
+use Rattle.bounds.specs.declared.Bound.{Bound}
+use Rattle.bounds.specs.declared.CondBounds.{CondBounds}
+use Rattle.bounds.specs.Bounds.{meets, isExcluded, isEmpty, common, intersection}
+use Rattle.bounds.proofs.Laws.{clipped-meets}
+use Rattle.cond.specs.Ranges.{rangeIn, clippedIn}
+
+-- ---- an answer gives one value, or is refused
+
+module _ {A : Type 0} {a : Answer A} {v : A} where
+  pub gave : {u : A} → a ≡ gives u → a ≡ gives v → u ≡ v
+  gave p q = cc
+
+  pub never-refused : {g : Group} {n at : ℕ} → a ≡ refused g n at → a ≡ gives v → ⊥
+  never-refused p q = let z : _≡_ {A = ℕ} 0 1 = cc in omega arith
+
+-- ---- the ranges of a block
+
+module _ (b : List ℕ) where
+  -- they start nowhere or with a number
+  pub never-excluded : (k : ℕ) → isExcluded (rangeIn b k .start) ≡ false
+  unfolding rangeIn
+  never-excluded k = told (eqb (byte b (68 + 18 * k)) 0) (be b (68 + 18 * k + 2) 8)
+    where
+      told : (none : Bool) (n : ℕ) → isExcluded (cond none Bound.Unbounded (Bound.Included n)) ≡ false
+      told true n = refl
+      told false n = refl
+
+  module _ (most j k : ℕ) where
+    -- two of them have a range in common
+    pub in-common : intersection (clippedIn b most j) (clippedIn b most k) ≡ gives (common (clippedIn b most j) (clippedIn b most k))
+    in-common = clipped-meets (rangeIn b j) (rangeIn b k) most (never-excluded j) (never-excluded k) .0
+
+    -- and whether that is empty tells whether they meet
+    pub meeting : {both : CondBounds} {empty : Bool} → intersection (clippedIn b most j) (clippedIn b most k) ≡ gives both
+        → ((e : Bool) → isEmpty both ≡ gives e → empty ≡ e) → not empty ≡ meets (clippedIn b most j) (clippedIn b most k)
+    meeting p q =
+        let law = clipped-meets (rangeIn b j) (rangeIn b k) most (never-excluded j) (never-excluded k) .1 in
+        ap not (q _ (ap isEmpty (gave p in-common) ∙ law)) ∙ Bool·not-not _

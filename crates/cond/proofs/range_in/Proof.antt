@@ -1,0 +1,35 @@
+-- `range_in` meets its contract: each end by what the calls ensure. Assumes nothing.
+use borrow.Author.Needs.{needs}
+use Rattle.cond.specs.Ranges.{rangeIn}
+use Rattle.cond.proofs.range_in.Statement.{statement}
+use Rattle.cond.proofs.range_in.Tie as tie
+
+returns : tie.Need-returns
+unfolding rangeIn
+returns c =
+    let start = c .before .before .before in
+    rw (
+      c .end-of .ensures,
+      c .before .be642 .ensures,
+      c .before .before .byte-at2 .ensures,
+      start .start-of .ensures,
+      start .before .be64 .ensures,
+      start .before .before .byte-at .ensures,
+    )
+
+pub range-in-spec : {M : Type 1} → statement M
+range-in-spec =
+    tie.close
+    (tie.spec
+    (λ c. search needs)
+    (λ c. search needs)
+    (λ c κs. search needs)
+    (λ c. search needs)
+    (λ c κs. search needs)
+    (λ c κs. search needs)
+    (λ c. search needs)
+    (λ c κs. search needs)
+    (λ c. search needs)
+    (λ c κs. search needs)
+    (λ c κs. search needs)
+    returns)

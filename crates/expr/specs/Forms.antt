@@ -1,0 +1,74 @@
+-- The five forms of a length expression: a field's value forward to a length, and a length back to the value. Assumes nothing.
+use mathlib.Core.Path.{_≡_}
+use mathlib.Core.Bool.{Bool, true, cond, not}
+use mathlib.Core.Logic.{_↔_}
+use mathlib.Core.Option.{Option, none, some}
+use Prim.Native.Nat.{ℕ, _+_, _-_, _*_, _/_, _%_, _^_}
+use lib.Dec.{ltb, eqb}
+use Rattle.expr.specs.declared.UsableAlgExpr.{UsableAlgExpr}
+use Rattle.expr.specs.declared.Value.{Value}
+use Rattle.expr.specs.declared.Length.{Length}
+
+-- ---- forward
+
+-- a step's number, and none where it passes 2^64 - 1
+unfoldable pub fits : ℕ → Option ℕ
+fits n = cond (ltb n (2 ^ 64)) (some n) none
+
+-- one step after another: none where the first gives none
+infixl 20 _then_
+abbrev pub _then_ : Option ℕ → (ℕ → Option ℕ) → Option ℕ
+some n then step = step n
+none then step = none
+
+abbrev pub plus : ℕ → ℕ → Option ℕ
+plus a n = fits (n + a)
+
+abbrev pub times : ℕ → ℕ → Option ℕ
+times m n = fits (n * m)
+
+-- x; x + a; x * m; (x + a) * m; x * m + a
+abbrev pub forward : UsableAlgExpr → ℕ → Option ℕ
+forward UsableAlgExpr.IdentOnly x = some x
+forward (UsableAlgExpr.SimpleAdd a) x = plus a x
+forward (UsableAlgExpr.SimpleMult m) x = times m x
+forward (UsableAlgExpr.AddMult a m) x = plus a x then times m
+forward (UsableAlgExpr.MultAdd m a) x = times m x then plus a
+
+-- ---- back
+
+-- no multiplier is 0
+abbrev pub noZero : UsableAlgExpr → Bool
+noZero UsableAlgExpr.IdentOnly = true
+noZero (UsableAlgExpr.SimpleAdd a) = true
+noZero (UsableAlgExpr.SimpleMult m) = not (eqb m 0)
+noZero (UsableAlgExpr.AddMult a m) = not (eqb m 0)
+noZero (UsableAlgExpr.MultAdd m a) = not (eqb m 0)
+
+-- r is what y gives back: x exactly when x forward is y and no multiplier is 0
+abbrev pub Back : UsableAlgExpr → ℕ → Option ℕ → Type 0
+Back e y r = (x : ℕ) → (r ≡ some x) ↔ ((forward e x ≡ some y) × (noZero e ≡ true))
+
+-- the same worked out: the steps undone, the last one first
+unfoldable pub less : ℕ → ℕ → Option ℕ
+less a n = cond (ltb n a) none (some (n - a))
+
+unfoldable pub over : ℕ → ℕ → Option ℕ
+over m n = cond (eqb m 0) none (cond (eqb (n % m) 0) (some (n / m)) none)
+
+abbrev pub back : UsableAlgExpr → ℕ → Option ℕ
+back UsableAlgExpr.IdentOnly y = some y
+back (UsableAlgExpr.SimpleAdd a) y = less a y
+back (UsableAlgExpr.SimpleMult m) y = over m y
+back (UsableAlgExpr.AddMult a m) y = over m y then less a
+back (UsableAlgExpr.MultAdd m a) y = less a y then over m
+
+-- ---- what the program's answers say
+
+abbrev pub valueOf : Value → Option ℕ
+valueOf (Value.Is n) = some n
+valueOf Value.None = none
+
+abbrev pub lengthOf : Length → Option ℕ
+lengthOf (Length.Is n) = some (n .0)
+lengthOf Length.None = none

@@ -1,0 +1,39 @@
+-- `check` meets its contract: the definition's parts, in its order. Assumes nothing.
+use borrow.Author.Needs.{needs}
+use Rattle.length.specs.Step.{lengthCheck}
+use Rattle.length.proofs.check.Statement.{statement}
+use Rattle.length.proofs.check.Tie as tie
+
+returns : tie.Need-returns
+unfolding lengthCheck
+returns c =
+    rw (
+      c .and-then4 .ensures,
+      c .before .and-then3 .ensures,
+      c .before .before .and-then2 .ensures,
+      c .before .before .before .and-then .ensures,
+      c .before .before .before .before .check-trees .ensures,
+      c .before .before .before .before .before .check-length-field3 .ensures,
+      c .before .before .before .before .before .before .check-length-field2 .ensures,
+      c .before .before .before .before .before .before .before .check-length-field .ensures,
+      c .before .before .before .before .before .before .before .before .refuse .ensures,
+      c .before .before .before .before .before .before .before .before .before .is-given2 .ensures,
+      c .before .before .before .before .before .before .before .before .before .before .is-given .ensures,
+    )
+
+pub check-spec : {M : Type 1} → statement M
+check-spec =
+    tie.close
+    (tie.spec
+    (λ c κs. search needs)
+    (λ c κs. search needs)
+    (λ c κs. search needs)
+    (λ c κs. search needs)
+    (λ c κs. search needs)
+    (λ c κs. search needs)
+    (λ c κs. search needs)
+    (λ c κs. search needs)
+    (λ c κs. search needs)
+    (λ c κs. search needs)
+    (λ c κs. search needs)
+    returns)

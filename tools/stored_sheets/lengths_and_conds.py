@@ -1,0 +1,233 @@
+"""The rules of lengths and conditions, steps 4 and 5, and what these hold.
+
+Stated once, in the order of docs/RULES.md.
+"""
+
+from collections import namedtuple
+
+from rules import (
+    ACCEPTED, MOST_BYTES, MOST_NUMBER, SLICE, blocks_of, fields_of, header_length,
+    name_of, number_at, resolved)
+
+LENGTH, COND = 4, 5
+
+# Forms of a length.
+UNDEFINED, PLAIN, SUM, PRODUCT, SUM_TIMES, PRODUCT_PLUS, TREE = range(7)
+# Kinds of nodes.
+VALUE, THE_FIELD, ADD, SUBTRACT, MULTIPLY, DIVIDE = range(6)
+# Kinds of the ends of a range. A start is of the first two.
+NONE, INCLUDED, EXCLUDED = range(3)
+
+MOST_ENTRIES = 8
+
+Formula = namedtuple("Formula", "form first second")
+
+
+def blocks_of_kind(sheet, kind):
+    """Place and block for each block of that kind."""
+    return [(place, block) for place, block in enumerate(blocks_of(sheet))
+            if block[0:1] == kind]
+
+
+def field_named(sheet, name):
+    """The field of that name, resolved, or None."""
+    for block in fields_of(sheet):
+        if name_of(block) == name:
+            return resolved(block)
+    return None
+
+
+def largest_value(bits):
+    return 2 ** bits - 1
+
+
+def step_4(sheet):
+    """Length 12 by L block, then length 1, then for each slot in turn length 3 to 10."""
+    given = {}
+    for place, block in blocks_of_kind(sheet, b"L"):
+        if block[67] == TREE and tree_formula(nodes_of(block)) is None:
+            return LENGTH, 12, place
+        given[block[66]] = place, block
+    if 1 in given and 2 in given:
+        return LENGTH, 1, len(blocks_of(sheet))
+    for slot in sorted(given):
+        place, block = given[slot]
+        number = slot_refusal(sheet, slot, block)
+        if number != 0:
+            return LENGTH, number, place
+    return ACCEPTED
+
+
+def slot_refusal(sheet, slot, block):
+    """The number of the first length refusal of one slot, 1 and 12 apart, or 0.
+
+    No sheet comes to 13. The default is at most the largest value, and more x
+    never makes a form's steps smaller. So where no step of the largest value
+    passes 2^64 - 1, none of the default does.
+    """
+    formula = formula_of(block)
+    if formula is None:
+        return 0
+    found = field_named(sheet, name_of(block))
+    if found is None:
+        return 3
+    if found.bits > 64:
+        return 4
+    if found.gen == 1:
+        return 5
+    if found.arg != found.repr or found.repr == SLICE:
+        return 6
+    if found.fixed == 1 and slot != 0:
+        return 7
+    longest = forward(formula, largest_value(found.bits))
+    if longest is None:
+        return 8
+    if longest > MOST_BYTES:
+        return 9
+    if slot == 0:
+        usual = forward(formula, found.number)
+        if usual is None:
+            return 13
+        if usual < header_length(sheet):
+            return 10
+    return 0
+
+
+def formula_of(block):
+    """The form of an L block and its two numbers, None where it is undefined."""
+    form = block[67]
+    if form == UNDEFINED:
+        return None
+    if form == TREE:
+        return tree_formula(nodes_of(block))
+    return Formula(form, number_at(block, 68, 76), number_at(block, 76, 84))
+
+
+def forward(formula, x):
+    """The length of x, None where a step passes 2^64 - 1."""
+    form, first, second = formula
+    steps = {PLAIN: (),
+             SUM: ((ADD, first),),
+             PRODUCT: ((MULTIPLY, first),),
+             SUM_TIMES: ((ADD, first), (MULTIPLY, second)),
+             PRODUCT_PLUS: ((MULTIPLY, first), (ADD, second))}
+    for operator, number in steps[form]:
+        x = x + number if operator == ADD else x * number
+        if x > MOST_NUMBER:
+            return None
+    return x
+
+
+def nodes_of(block):
+    """The nodes of a tree, each as kind, left, right and number."""
+    nodes = []
+    for start in range(88, 88 + 12 * block[84], 12):
+        nodes.append((*block[start:start + 3], number_at(block, start + 4, start + 12)))
+    return nodes
+
+
+def tree_formula(nodes):
+    """The form that a tree is, None where it is none. The root is the last node."""
+    kind, left, right, _ = nodes[-1]
+    for part, other in ((left, right), (right, left)):
+        if kind in (ADD, MULTIPLY) and nodes[other][0] == VALUE:
+            inner, number = simple_formula(nodes, part), nodes[other][3]
+            if inner and kind == ADD and inner.form == PRODUCT:
+                return Formula(PRODUCT_PLUS, inner.first, number)
+            if inner and kind == MULTIPLY and inner.form == SUM:
+                return Formula(SUM_TIMES, inner.first, number)
+    return simple_formula(nodes, len(nodes) - 1)
+
+
+def simple_formula(nodes, index):
+    """x, or a number and x added or multiplied. None where the node is neither."""
+    kind, left, right, _ = nodes[index]
+    if kind == THE_FIELD:
+        return Formula(PLAIN, 0, 0)
+    if kind in (ADD, MULTIPLY):
+        for part, other in ((left, right), (right, left)):
+            if nodes[part][0] == THE_FIELD and nodes[other][0] == VALUE:
+                return Formula(SUM if kind == ADD else PRODUCT, nodes[other][3], 0)
+    return None
+
+
+def lengths(sheet):
+    """For each slot of a sheet that passes step 4 what it holds.
+
+    None where it is absent, () where it is undefined; else the form, its two
+    numbers, the largest length and the default's length.
+    """
+    out = [None, None, None]
+    for _, block in blocks_of_kind(sheet, b"L"):
+        formula = formula_of(block)
+        out[block[66]] = ()
+        if formula is not None:
+            found = field_named(sheet, name_of(block))
+            out[block[66]] = (*formula, forward(formula, largest_value(found.bits)),
+                              forward(formula, found.number))
+    return out
+
+
+def step_5(sheet):
+    """Cond 1 to 7 for each entry in turn, then cond 8."""
+    listed = []
+    for place, block in blocks_of_kind(sheet, b"C"):
+        number = entry_refusal(sheet, listed, block)
+        if number != 0:
+            return COND, number, place
+        listed.append(name_of(block))
+    if len(listed) > MOST_ENTRIES:
+        return COND, 8, len(blocks_of(sheet))
+    return ACCEPTED
+
+
+def entry_refusal(sheet, listed, block):
+    """The number of the first cond refusal of one entry, 8 apart, or 0.
+
+    `listed` are the names of the entries before it.
+    """
+    found = field_named(sheet, name_of(block))
+    if found is None:
+        return 1
+    if found.repr == SLICE:
+        return 2
+    earlier = []
+    for span in spans_of(block):
+        first, last = clipped(span, largest_value(found.bits))
+        if first > last:
+            return 4
+        if any(meet((first, last), other) for other in earlier):
+            return 6
+        earlier.append((first, last))
+    if name_of(block) in listed:
+        return 7
+    return 0
+
+
+def spans_of(block):
+    """The ranges of a C block, each as start kind, end kind, start and end."""
+    return [(block[at], block[at + 1], number_at(block, at + 2, at + 10),
+             number_at(block, at + 10, at + 18))
+            for at in range(68, 68 + 18 * block[66], 18)]
+
+
+def clipped(span, largest):
+    """The first and the last number of a range. It is empty if the last is less."""
+    start_kind, end_kind, start, end = span
+    first = start if start_kind == INCLUDED else 0
+    if end_kind == NONE:
+        return first, largest
+    last = end if end_kind == INCLUDED else end - 1
+    return first, min(last, largest)
+
+
+def meet(one, other):
+    """Whether a number lies in both."""
+    return one[0] <= other[1] and other[0] <= one[1]
+
+
+def ranges(sheet):
+    """For each entry of a sheet that passes step 5 its ranges, clipped."""
+    return [[clipped(span, largest_value(field_named(sheet, name_of(block)).bits))
+             for span in spans_of(block)]
+            for _, block in blocks_of_kind(sheet, b"C")]
