@@ -54,7 +54,7 @@ over-even n m z h = simp (ne-eqb _ _ z, eq-eqb _ _ h)
 -- ---- steps undone
 
 -- a number that fits, and nothing else, is what a step gives
-fits-is : (n y : ℕ) → (fits n ≡ some y) ↔ ((n ≡ y) × (y < 2 ^ 64))
+pub fits-is : (n y : ℕ) → (fits n ≡ some y) ↔ ((n ≡ y) × (y < 2 ^ 64))
 unfolding fits
 fits-is n y = (given (ltb n (2 ^ 64)) refl, λ p. simp (p .0, lt-ltb y (2 ^ 64) (p .1)))
   where
@@ -63,7 +63,7 @@ fits-is n y = (given (ltb n (2 ^ 64)) refl, λ p. simp (p .0, lt-ltb y (2 ^ 64) 
     given false q e = absurd (let z : _≡_ {A = ℕ} 0 1 = cc in omega arith)
 
 -- two steps give y exactly when the first gives some s, from which the second gives y
-then-is : (o : Option ℕ) (step : ℕ → Option ℕ) (y : ℕ) → ((o then step) ≡ some y) ↔ ((s : ℕ) × (o ≡ some s) × (step s ≡ some y))
+pub then-is : (o : Option ℕ) (step : ℕ → Option ℕ) (y : ℕ) → ((o then step) ≡ some y) ↔ ((s : ℕ) × (o ≡ some s) × (step s ≡ some y))
 then-is (some s) step y = (λ e. (s, refl, e), λ t. let same : s ≡ t .0 = cc in ap step same ∙ t .2)
 then-is none step y = (λ e. absurd (let z : _≡_ {A = ℕ} 0 1 = cc in omega arith), λ t. absurd (let z : _≡_ {A = ℕ} 0 1 = cc in omega arith))
 
