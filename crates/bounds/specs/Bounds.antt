@@ -40,10 +40,10 @@ firstOf (Bound.Excluded a) = a + 1
 abbrev pub holdsNone : CondBounds → Bool
 holdsNone r = not (inside r (firstOf (r .start)))
 
--- some number lies in both: if any, then the later of the two that they begin with
 abbrev pub later : ℕ → ℕ → ℕ
 later a b = cond (leb a b) b a
 
+-- some number lies in both: if any, then the later of the two that they begin with
 abbrev pub meets : CondBounds → CondBounds → Bool
 meets r q = let n = later (firstOf (r .start)) (firstOf (q .start)) in inside r n && inside q n
 
@@ -73,18 +73,19 @@ emptyFrom first (Bound.Excluded e) = leb e first
 unfoldable pub isEmpty : CondBounds → Answer Bool
 isEmpty r = refuse (isExcluded (r .start)) Group.Bound 1 0 andThen gives (emptyFrom (firstOf (r .start)) (r .end))
 
--- of two starts the later one; of an excluded one nothing is asked
+-- of two starts the later one; an excluded one was refused
 abbrev pub startsLater : Bound → Bound → Bool
 startsLater Bound.Unbounded q = false
 startsLater (Bound.Included a) q = fromStart q a
 startsLater (Bound.Excluded a) q = true
 
--- of two ends the earlier one: of an included i and an excluded e the former where i < e
+-- n is at most the number of an end, of either kind
 abbrev pub numberUpTo : ℕ → Bound → Bool
 numberUpTo n Bound.Unbounded = true
 numberUpTo n (Bound.Included e) = leb n e
 numberUpTo n (Bound.Excluded e) = leb n e
 
+-- of two ends the earlier one: of an included i and an excluded e the former where i < e
 abbrev pub endsEarlier : Bound → Bound → Bool
 endsEarlier Bound.Unbounded q = false
 endsEarlier (Bound.Included e) q = toEnd q e

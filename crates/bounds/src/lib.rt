@@ -144,6 +144,7 @@ fn starts_later(a: Bound, b: Bound) -> bool
     }
 }
 
+// Whether a number is at most that of an end, of either kind.
 fn number_up_to(n: u64, end: Bound) -> bool
     ensures { λ r. ⌜ r ≡ numberUpTo n end ⌝ }
 {

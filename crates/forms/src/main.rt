@@ -1,5 +1,7 @@
 // Asks single questions on both sides of a line: lengths forward and back, trees, ranges. The answers were worked out by hand.
 // Prints which parts were right and which were not.
+use answer::Group;
+use answer::Refusal;
 use blocks::nodes::Node;
 use bounds::Bound;
 use bounds::CondBounds;
@@ -190,11 +192,21 @@ fn clipped() -> bool {
         & clips(Bound::Unbounded, 255, 1, 255)
 }
 
-// 1 for empty, 0 for not, and 2 for refused.
+// Whether a refusal is bound 1, which has place 0.
+fn is_bound_1(r: Refusal) -> bool {
+    let paper = r.on_paper();
+    let group = paper.group;
+    match group {
+        Group::Bound => (paper.number == 1) & (paper.place == 0),
+        _ => false,
+    }
+}
+
+// 1 for empty, 0 for not, 2 for bound 1, and 3 for any other refusal.
 fn emptiness(start: Bound, end: Bound) -> u8 {
     match (CondBounds { start, end }).is_empty() {
         Emptiness::Is(empty) => if empty { 1 } else { 0 },
-        Emptiness::Refused(_) => 2,
+        Emptiness::Refused(r) => if is_bound_1(r) { 2 } else { 3 },
     }
 }
 
@@ -263,13 +275,21 @@ fn ends() -> bool {
         & share(below_nine, below_four, 0, 0, 2, 4)
 }
 
+fn share_nothing(r: CondBounds, q: CondBounds) -> bool {
+    match r.intersect(q) {
+        Intersection::Is(_) => false,
+        Intersection::Refused(reason) => is_bound_1(reason),
+    }
+}
+
 // An excluded start is refused, on either side.
 fn excluded_starts() -> bool {
-    let past = all_from(Bound::Excluded(4));
+    let past = all_from(Bound::Excluded(0));
     let any = all_from(Bound::Unbounded);
-    let left = share(past, any, 2, 4, 0, 0);
-    let right = share(any, past, 2, 4, 0, 0);
-    !left & !right & (emptiness(Bound::Excluded(4), Bound::Included(9)) == 2)
+    share_nothing(past, any)
+        & share_nothing(any, past)
+        & (emptiness(Bound::Excluded(0), Bound::Excluded(1)) == 2)
+        & (emptiness(Bound::Excluded(4), Bound::Unbounded) == 2)
 }
 
 fn holds(start: Bound, end: Bound, first: u64, last: u64) -> bool {
