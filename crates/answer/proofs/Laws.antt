@@ -114,6 +114,9 @@ module _ (f : ℕ → Check) where
       let two = both (first f n) (f n) e in
       ⊎-elim (λ q. rw q (two .1)) (each-passed n (two .0) i) (eq-or-lt-of-le {n = i} {m = n} (omega arith))
 
+  pub each-is : (n : ℕ) → (first f n ≡ accepted) ↔ ((i : ℕ) → i < n → f i ≡ accepted)
+  each-is n = (each-passed n, all-passed n)
+
   -- and its refusal is that of a check before which all passed
   pub first-refused : (n : ℕ) {g : Group} {k at : ℕ} → first f n ≡ refused g k at → (i : ℕ) × (i < n) × (first f i ≡ accepted) × (f i ≡ refused g k at)
   unfolding first

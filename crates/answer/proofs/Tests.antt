@@ -1,6 +1,6 @@
 -- What tests tell: joined ones of the single ones, and a single one of its numbers. Assumes nothing.
-use mathlib.Core.Path.{_≡_, refl}
-use mathlib.Core.Bool.{Bool, true, false, not, _&&_, _||_}
+use mathlib.Core.Path.{_≡_, refl, sym}
+use mathlib.Core.Bool.{Bool, true, false, not, _&&_, _||_, true≢false}
 use mathlib.Core.Logic.{_⊎_, inl, inr, _↔_}
 use Prim.Native.Nat.{ℕ, _≤_, _<_}
 use lib.Dec.{leb, eqb}
@@ -32,6 +32,13 @@ one-holds true b e = inl refl
 one-holds false b e = inr (not-false b e)
 
 -- ---- exactly when a test holds, or does not
+
+pub fails-is : (test : Bool) → (test ≡ false) ↔ (test ≡ true → ⊥)
+fails-is true = (λ e _. absurd (true≢false e), λ h. absurd (h refl))
+fails-is false = (λ _ e. true≢false (sym e), λ _. refl)
+
+pub and-is : (a b : Bool) → ((a && b) ≡ true) ↔ ((a ≡ true) × (b ≡ true))
+and-is a b = (both-hold a b, λ p. rw (p .0, p .1))
 
 pub leb-is : (m n : ℕ) → (leb m n ≡ true) ↔ (m ≤ n)
 leb-is m n = (leb-true m n, le-leb m n)

@@ -1,14 +1,14 @@
 -- Laws of names: exactly when a lookup finds nothing, and exactly which field it finds; and that its answer is one. Assumes nothing.
-use mathlib.Core.Path.{_≡_, refl, ap}
-use mathlib.Core.Bool.{true, false, true≢false}
+use mathlib.Core.Path.{_≡_, refl}
+use mathlib.Core.Bool.{false}
 use mathlib.Core.List.{List}
-use mathlib.Core.Logic.{_↔_}
-use mathlib.Core.Option.{Option, none, some}
+use mathlib.Core.Logic.{_↔_, Iff·rfl}
+use mathlib.Core.Option.{some}
 use Prim.Native.Nat.{ℕ, _<_}
 use Rattle.octets.proofs.Laws.{same-is, same-is-not}
 use Rattle.sheet.specs.Sheet.{isSome}
 use Rattle.sheet.specs.Blocks.{fieldCount}
-use Rattle.sheet.proofs.Walk.{where-at, where-found, where-nowhere, where-nothing}
+use Rattle.sheet.proofs.Walk.{where-at, where-found, where-nowhere, where-nothing, nowhere-is}
 use Rattle.header.specs.declared.FieldIndex.{FieldIndex}
 use Rattle.header.specs.Names.{nameAt, namedAmong, fieldNamed, indexOf}
 
@@ -16,14 +16,7 @@ module _ (s name : List ℕ) where
   -- ---- nothing is found exactly where no field has the name
 
   pub none-named : (n : ℕ) → (isSome (namedAmong s name n) ≡ false) ↔ ((i : ℕ) → i < n → nameAt s i ≡ name → ⊥)
-  none-named n = (
-    λ e i h. same-is-not (nameAt s i) name .0 (where-nowhere _ n (nothing (namedAmong s name n) e) i h),
-    λ h. ap isSome (where-nothing _ n (λ i l. same-is-not (nameAt s i) name .1 (h i l))),
-  )
-    where
-      nothing : (found : Option ℕ) → isSome found ≡ false → found ≡ none
-      nothing (some i) e = absurd (true≢false e)
-      nothing none e = refl
+  none-named n = simp (nowhere-is, same-is) Iff·rfl
 
   -- ---- field i is found exactly where it is the first that has the name
 

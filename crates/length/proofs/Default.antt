@@ -11,15 +11,11 @@ use borrow.Author.Tests.{leb-true, leb-false, not-false}
 use Rattle.answer.specs.declared.Group.{Group}
 use Rattle.answer.specs.Paper.{gives, refused, Check, accepted, refuse, _andThen_, first}
 use Rattle.answer.proofs.Laws.{both, not-refused, first-refused}
-use Rattle.answer.proofs.Tests.{neither}
 use Rattle.number.specs.Numbers.{maxBytes, maxValue}
 use Rattle.number.proofs.Laws.{no-max-wide, max-is}
 use Rattle.sheet.specs.Blocks.{blockCount, blockAt, fieldCount}
 use Rattle.sheet.specs.Sheet.{isSome}
 use Rattle.sheet.proofs.Walk.{where-found}
-use Rattle.types.specs.declared.BuiltinTypes.{BuiltinTypes}
-use Rattle.types.specs.declared.Arg.{Arg}
-use Rattle.types.specs.Types.{sameType, isSlice}
 use Rattle.field.specs.declared.DefaultVal.{DefaultVal}
 use Rattle.field.specs.declared.Field.{Field}
 use Rattle.field.specs.Sound.{Sound, widthOf}
@@ -32,6 +28,7 @@ use Rattle.expr.proofs.Laws.{then-is}
 use Rattle.expr.proofs.Growth.{forward-grows}
 use Rattle.slots.specs.declared.LengthField.{LengthField}
 use Rattle.slots.specs.Slots.{placeOf, blockOfSlot, lengthField, isTree, noForm, exprIn}
+use Rattle.length.proofs.Lengths.{arg-is}
 use Rattle.length.specs.Named.{fieldHere}
 use Rattle.length.specs.Step.{largest, defaultOf, ofDefault, badArg, isOver, isUnder, fieldFault, lengthFault, exprFault, heldFault, treeFault, bothGiven, slotCheck, lengthCheck}
 
@@ -48,11 +45,6 @@ within w v n h e l = told (leb w 64) refl
         omega arith
     told false q = let none-here : none ≡ some v = sym (no-max-wide w (leb-false w 64 q)) ∙ e in absurd (let z : _≡_ {A = ℕ} 0 1 = cc in omega arith)
 
--- a field whose arg is its repr is no byte slice
-no-slice : (repr : BuiltinTypes) (arg : Arg) → badArg repr arg ≡ false → repr ≡ BuiltinTypes.ByteSlice → ⊥
-no-slice repr (Arg.BuiltinTypes t) e q = let z = neither (not (sameType t repr)) (isSlice repr) e .1 in let k : _≡_ {A = ℕ} 0 1 = cc in omega arith
-no-slice repr Arg.Code e q = let k : _≡_ {A = ℕ} 0 1 = cc in omega arith
-
 module _ (e : UsableAlgExpr) (f : Field) (sound : Sound f) where
   default-length : badArg (f .repr) (f .arg) ≡ false → (most : ℕ) → largest e f ≡ some most → (n : ℕ) × (ofDefault e f ≡ some n) × (n ≤ most)
   default-length good most q = by-kind (f .default) refl
@@ -63,7 +55,7 @@ module _ (e : UsableAlgExpr) (f : Field) (sound : Sound f) where
       by-kind : (d : DefaultVal) → f .default ≡ d → (n : ℕ) × ((defaultOf d then forward e) ≡ some n) × (n ≤ most)
       by-kind (DefaultVal.Num n) d = forward-grows e n (top .0) most (within (widthOf f) (top .0) n (sound .some-bits) (top .1) (sound .number-fits n d)) (top .2)
       by-kind (DefaultVal.Bool b) d = absurd (sound .no-bool-default b d)
-      by-kind (DefaultVal.Bytes span) d = absurd (no-slice (f .repr) (f .arg) good (sound .bytes-field span d))
+      by-kind (DefaultVal.Bytes span) d = absurd (arg-is (f .repr) (f .arg) .0 good .1 (sound .bytes-field span d))
 
 -- ---- refusals that are not length 13
 

@@ -4,7 +4,7 @@ use mathlib.Core.Path.{_≡_, refl, sym, ap, _∙_}
 use mathlib.Core.Bool.{Bool, true, false, cond, not, _&&_, _||_, true≢false}
 use mathlib.Core.List.{List}
 use mathlib.Core.Logic.{_⊎_, inl, inr, ⊎-elim, _↔_}
-use mathlib.Core.Option.{Option, none, some}
+use mathlib.Core.Option.{none}
 use Prim.Native.Nat.{ℕ, zero, suc, _+_, _*_, _%_, _≤_, _<_}
 use native.Mathlib.Nat.{eq-or-lt-of-le}
 use native.Mathlib.Decide.{decLt}
@@ -21,9 +21,9 @@ use Rattle.octets.specs.Ones.{checkHolds}
 use Rattle.sheet.specs.declared.Counts.{Counts}
 use Rattle.blocks.specs.Layout.{kindOf, isF, isL, isC, hasFirst, hasSecond, lName, lRest, lLayout, layoutHolds}
 use Rattle.sheet.specs.Blocks.{blockCount, blockAt, count, countsOf, fieldCount, lengthCount, isSlot}
-use Rattle.sheet.specs.Sheet.{wrongLength, misplaced, tooMany, isSome, slotBefore, faultsOf, blockFault, sheetCheck}
+use Rattle.sheet.specs.Sheet.{wrongLength, misplaced, tooMany, slotBefore, faultsOf, blockFault, sheetCheck}
 use Rattle.sheet.specs.Accepted.{Accepted}
-use Rattle.sheet.proofs.Walk.{where-nowhere, where-nothing}
+use Rattle.sheet.proofs.Walk.{where-nowhere, where-nothing, not-some}
 
 -- ---- the tests of one block
 
@@ -168,10 +168,6 @@ slot-le b e h =
     second true true r t u v h = refl
     second true false r t u v h = h
     second false q r t u v h = clash (sym h)
-
-not-some : (o : Option ℕ) → isSome o ≡ false → o ≡ none
-not-some (some i) e = clash e
-not-some none e = refl
 
 -- a slot that was not given before stands in no block before
 not-before : (s : List ℕ) (j : ℕ) → kindOf (blockAt s j) ≡ 76 → slotBefore s j ≡ false

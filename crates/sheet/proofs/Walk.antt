@@ -1,13 +1,15 @@
 -- Laws of the first index at which a test holds: where the walk begins, one index further, where it is found, and what that tells. Assumes nothing.
-use mathlib.Core.Path.{_≡_, refl, _∙_}
-use mathlib.Core.Bool.{Bool, true, false, cond}
-use mathlib.Core.Logic.{_⊎_, inl, inr, ⊎-elim}
+use mathlib.Core.Path.{_≡_, refl, ap, _∙_}
+use mathlib.Core.Bool.{Bool, true, false, cond, true≢false}
+use mathlib.Core.Logic.{_⊎_, inl, inr, ⊎-elim, _↔_}
 use mathlib.Core.Option.{Option, none, some}
 use Prim.Native.Nat.{ℕ, zero, suc, _+_, _<_}
 use native.Mathlib.Nat.{eq-or-lt-of-le}
 use native.Mathlib.Numerals.{add-one}
 use native.Mathlib.Omega.{arith}
+use Rattle.answer.proofs.Tests.{fails-is}
 use Rattle.sheet.specs.Walk.{orElse, firstWhere}
+use Rattle.sheet.specs.Sheet.{isSome}
 
 module _ (test : ℕ → Bool) where
   pub where-none : firstWhere test 0 ≡ none
@@ -56,3 +58,15 @@ module _ (test : ℕ → Bool) where
       last (some k) b p q r before = let here = before (p ∙ r) in (omega (arith, here .0), here .1, here .2)
       last none true p q r before = let at : n ≡ i = cc in (omega arith, rw (← at) q, rw (← at) p)
       last none false p q r before = absurd (let z : _≡_ {A = ℕ} 0 1 = cc in omega arith)
+
+-- ---- whether anything is found
+
+pub not-some : (found : Option ℕ) → isSome found ≡ false → found ≡ none
+not-some (some i) e = absurd (true≢false e)
+not-some none e = refl
+
+pub nowhere-is : (test : ℕ → Bool) (n : ℕ) → (isSome (firstWhere test n) ≡ false) ↔ ((i : ℕ) → i < n → test i ≡ true → ⊥)
+nowhere-is test n = (
+  λ e i l. fails-is (test i) .0 (where-nowhere test n (not-some (firstWhere test n) e) i l),
+  λ h. ap isSome (where-nothing test n (λ i l. fails-is (test i) .1 (h i l))),
+)
