@@ -1,4 +1,4 @@
-// Lengths: what each of the three slots holds, and step 4, as the Rust's `Length::from_packet_length` has it.
+// Lengths: step 4, as the Rust's `Length::from_packet_length` has it, and the two lengths of a slot, of the largest value and of the default.
 use answer::LengthFault;
 use answer::Refusal;
 use answer::Verdict;
