@@ -6,6 +6,10 @@ use Prim.Native.Nat.{ℕ, _≤_, _<_}
 use lib.Dec.{leb, eqb}
 use borrow.Author.Tests.{leb-true, leb-false, eqb-true, not-false, le-leb, lt-leb, eq-eqb}
 
+-- a test that holds and does not
+pub clash : {X : Type 0} → true ≡ false → X
+clash e = absurd (true≢false e)
+
 -- not one or the other: neither holds
 pub neither : (a b : Bool) → (a || b) ≡ false → (a ≡ false) × (b ≡ false)
 neither true b e = (e, cc)
@@ -25,6 +29,11 @@ pub never-both : (a b : Bool) → (a ≡ true → b ≡ true → ⊥) → (a && 
 never-both true true h = absurd (h refl refl)
 never-both true false h = refl
 never-both false b h = refl
+
+-- one or the other: one holds
+pub one-or-other : (a b : Bool) → (a || b) ≡ true → (a ≡ true) ⊎ (b ≡ true)
+one-or-other true b e = inl refl
+one-or-other false b e = inr e
 
 -- not neither: one holds
 pub one-holds : (a b : Bool) → (not a && not b) ≡ false → (a ≡ true) ⊎ (b ≡ true)

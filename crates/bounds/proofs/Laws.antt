@@ -11,7 +11,7 @@ use lib.Dec.{leb, ltb, leb·suc-suc}
 use borrow.Author.Tests.{lt-ltb, le-ltb, le-leb, lt-leb, leb-true, leb-false, not-true}
 use Rattle.answer.specs.Paper.{gives}
 use Rattle.answer.proofs.OneToOne.{paperOf-one}
-use Rattle.answer.proofs.Tests.{both-hold}
+use Rattle.answer.proofs.Tests.{both-hold, and-is}
 use Rattle.bounds.specs.declared.Bound.{Bound}
 use Rattle.bounds.specs.declared.CondBounds.{CondBounds}
 use Rattle.bounds.specs.declared.Emptiness.{Emptiness}
@@ -20,10 +20,6 @@ use Rattle.bounds.specs.declared.FirstLast.{FirstLast}
 use Rattle.bounds.specs.Bounds.{fromStart, toEnd, inside, firstOf, holdsNone, later, meets, clippedEnd, clipped, isExcluded, emptyFrom, isEmpty, startsLater, endsEarlier, common, intersection, lastOf, firstLast, emptinessOf, intersectionOf, numbersOf}
 
 -- ---- tests
-
--- two that hold hold together
-and-holds : {a b : Bool} → a ≡ true → b ≡ true → (a && b) ≡ true
-and-holds p q = rw (p, q)
 
 -- one that another follows from says as much as the two
 absorbs : (a b : Bool) → (a ≡ true → b ≡ true) → a ≡ (a && b)
@@ -89,7 +85,7 @@ inside-end : (r : CondBounds) (m n : ℕ) → inside r n ≡ true → m ≤ n �
 inside-end r m n t h = end-before (r .end) m n h (both-hold (fromStart (r .start) n) (toEnd (r .end) n) t .1)
 
 inside-before : (r : CondBounds) (m n : ℕ) → inside r n ≡ true → firstOf (r .start) ≤ m → m ≤ n → inside r m ≡ true
-inside-before r m n t l h = and-holds (from-is (r .start) m ∙ le-leb (firstOf (r .start)) m l) (inside-end r m n t h)
+inside-before r m n t l h = and-is _ _ .1 (from-is (r .start) m ∙ le-leb (firstOf (r .start)) m l, inside-end r m n t h)
 
 -- a range counts as holding none exactly where no number lies in it
 pub holds-none-is : (r : CondBounds) → (holdsNone r ≡ true) ↔ ((n : ℕ) → inside r n ≡ false)
@@ -115,7 +111,7 @@ meets-is r q = (λ t. let two = both-hold (inside r n) (inside q n) t in (n, two
     held : (k : ℕ) → inside r k ≡ true → inside q k ≡ true → meets r q ≡ true
     held k t u =
         let l = later-is (firstOf (r .start)) (firstOf (q .start)) k (inside-first r k t) (inside-first q k u) in
-        and-holds (inside-before r n k t (l .0) (l .2)) (inside-before q n k u (l .1) (l .2))
+        and-is _ _ .1 (inside-before r n k t (l .0) (l .2), inside-before q n k u (l .1) (l .2))
 
 -- ---- the end cut at a largest number
 
@@ -261,7 +257,7 @@ pub first-last-none : (r : CondBounds) → firstLast r ≡ none → (n : ℕ) �
 first-last-none r e n h =
     let first = firstOf (r .start) in
     not-from (inside r n)
-    (λ t. let l = inside-first r n t in and-holds (lt-ltb first (2 ^ 64) (omega arith)) (inside-end r first n t l))
+    (λ t. let l = inside-first r n t in and-is _ _ .1 (lt-ltb first (2 ^ 64) (omega arith), inside-end r first n t l))
     (not-held (ltb first (2 ^ 64) && toEnd (r .end) first) (first, lastOf (r .end)) e)
   where
     not-held : (test : Bool) (p : ℕ × ℕ) → cond test (some p) none ≡ none → test ≡ false

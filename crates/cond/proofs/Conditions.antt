@@ -10,14 +10,13 @@ use native.Mathlib.Omega.{arith}
 use lib.Dec.{leb}
 use borrow.Author.Tests.{not-false}
 use Rattle.answer.specs.Paper.{Check, accepted}
-use Rattle.answer.proofs.Laws.{both-is, refuse-is, never-accepted, each-is}
+use Rattle.answer.proofs.Laws.{both-is, refuse-is, never-given, each-is}
 use Rattle.answer.proofs.Tests.{fails-is, and-is, leb-is, leb-is-not}
 use Rattle.octets.proofs.Laws.{same-is}
 use Rattle.sheet.specs.Blocks.{blockAt}
 use Rattle.sheet.proofs.Walk.{nowhere-is}
 use Rattle.types.specs.declared.BuiltinTypes.{BuiltinTypes}
-use Rattle.types.specs.Types.{isSlice}
-use Rattle.types.proofs.Laws.{same-type, other-type}
+use Rattle.types.proofs.Laws.{slice-is}
 use Rattle.field.specs.declared.Field.{Field}
 use Rattle.fields.specs.Step.{fieldAt}
 use Rattle.header.specs.Names.{nameAt}
@@ -27,16 +26,10 @@ use Rattle.cond.specs.Ranges.{rangeCount, rangeIn, largestOf, clippedIn}
 use Rattle.cond.specs.Step.{meetsEarlier, rangesCheck, isEntry, listedBefore, fieldFault, namedFault, entryFault, condCheck}
 use Rattle.cond.specs.Conditions.{Lies, Entry, Conditions}
 
--- ---- single tests
-
 -- a check made only where a test holds passes exactly where, if the test holds, it does
 asked-is : (test : Bool) (x : Check) → (cond test x accepted ≡ accepted) ↔ (test ≡ true → x ≡ accepted)
 asked-is true x = (λ e _. e, λ h. h refl)
 asked-is false x = (λ _ e. absurd (true≢false (sym e)), λ _. refl)
-
--- the test for a byte slice fails exactly for the other types
-slice-is : (t : BuiltinTypes) → (isSlice t ≡ false) ↔ (t ≡ BuiltinTypes.ByteSlice → ⊥)
-slice-is t = (other-type t BuiltinTypes.ByteSlice, λ h. fails-is (isSlice t) .1 (λ e. h (same-type t BuiltinTypes.ByteSlice e)))
 
 -- ---- the ranges of one entry
 
@@ -88,7 +81,7 @@ module _ (s : List ℕ) (i : ℕ) where
   named-is : (found : Option ℕ) → (namedFault s i found ≡ accepted)
       ↔ ((k : ℕ) × (found ≡ some k) × (fieldFault (blockAt s i) (fieldAt s k) (listedBefore s i) i ≡ accepted))
   named-is (some k) = (λ e. (k, refl, e), λ p. let same : k ≡ p .0 = cc in rw same (p .2))
-  named-is none = (λ e. absurd (never-accepted refl e), λ p. absurd (let z : _≡_ {A = ℕ} 0 1 = cc in omega arith))
+  named-is none = (λ e. absurd (never-given refl e), λ p. absurd (let z : _≡_ {A = ℕ} 0 1 = cc in omega arith))
 
   -- a block passes exactly where it is no entry, or a good one whose name no entry before has
   entry-is : (entryFault s i ≡ accepted) ↔ (isEntry (blockAt s i) ≡ true → Entry s i × (listedBefore s i ≡ false))

@@ -3,10 +3,8 @@ use mathlib.Core.Path.{_≡_, refl, ap, _∙_}
 use mathlib.Core.Bool.{Bool, true, false, cond, not, Bool·not-not}
 use mathlib.Core.List.{List}
 use Prim.Native.Nat.{ℕ, _+_, _*_}
-use native.Mathlib.Omega.{arith}
 use lib.Dec.{eqb}
-use Rattle.answer.specs.declared.Group.{Group}
-use Rattle.answer.specs.Paper.{Answer, gives, refused}
+use Rattle.answer.specs.Paper.{Answer, gives}
 use Rattle.octets.specs.Octets.{byte, be}
 use Rattle.bounds.specs.declared.Bound.{Bound}
 use Rattle.bounds.specs.declared.CondBounds.{CondBounds}
@@ -14,14 +12,9 @@ use Rattle.bounds.specs.Bounds.{meets, isExcluded, isEmpty, common, intersectio
 use Rattle.bounds.proofs.Laws.{clipped-meets}
 use Rattle.cond.specs.Ranges.{rangeIn, clippedIn}
 
--- ---- an answer gives one value, or is refused
-
-module _ {A : Type 0} {a : Answer A} {v : A} where
-  pub gave : {u : A} → a ≡ gives u → a ≡ gives v → u ≡ v
-  gave p q = cc
-
-  pub never-refused : {g : Group} {n at : ℕ} → a ≡ refused g n at → a ≡ gives v → ⊥
-  never-refused p q = let z : _≡_ {A = ℕ} 0 1 = cc in omega arith
+-- an answer gives one value
+pub gave : {A : Type 0} {a : Answer A} {u v : A} → a ≡ gives u → a ≡ gives v → u ≡ v
+gave p q = cc
 
 -- ---- the ranges of a block
 

@@ -10,7 +10,7 @@ use lib.Dec.{leb, ltb, eqb}
 use borrow.Author.Tests.{leb-true, leb-false, not-false}
 use Rattle.answer.specs.declared.Group.{Group}
 use Rattle.answer.specs.Paper.{gives, refused, Check, accepted, refuse, _andThen_, first}
-use Rattle.answer.proofs.Laws.{both, not-refused, first-refused}
+use Rattle.answer.proofs.Laws.{not-refused, first-refused}
 use Rattle.number.specs.Numbers.{maxBytes, maxValue}
 use Rattle.number.proofs.Laws.{no-max-wide, max-is}
 use Rattle.sheet.specs.Blocks.{blockCount, blockAt, fieldCount}
@@ -28,7 +28,7 @@ use Rattle.expr.proofs.Laws.{then-is}
 use Rattle.expr.proofs.Growth.{forward-grows}
 use Rattle.slots.specs.declared.LengthField.{LengthField}
 use Rattle.slots.specs.Slots.{placeOf, blockOfSlot, lengthField, isTree, noForm, exprIn}
-use Rattle.length.proofs.Lengths.{arg-is}
+use Rattle.length.proofs.Lengths.{past, arg-is}
 use Rattle.length.specs.Named.{fieldHere}
 use Rattle.length.specs.Step.{largest, defaultOf, ofDefault, badArg, isOver, isUnder, fieldFault, lengthFault, exprFault, heldFault, treeFault, bothGiven, slotCheck, lengthCheck}
 
@@ -103,9 +103,9 @@ module _ (slot : ℕ) (f : Field) (at : ℕ) where
   arg-good : fieldFault slot f at ≡ accepted → badArg (f .repr) (f .arg) ≡ false
   unfolding fieldFault
   arg-good e =
-      let past-4 = both wide (generated andThen other andThen fixed) e .1 in
-      let past-5 = both generated (other andThen fixed) past-4 .1 in
-      not-refused (badArg (f .repr) (f .arg)) Group.Length 6 at (both other fixed past-5 .0)
+      let past-4 = past (ltb 64 (widthOf f)) 4 at (generated andThen other andThen fixed) e .1 in
+      let past-5 = past (f .generate) 5 at (other andThen fixed) past-4 .1 in
+      past (badArg (f .repr) (f .arg)) 6 at fixed past-5 .0
 
 -- of the lengths: where there is a largest one there is the default's
 module _ (slot : ℕ) (most usual : Option ℕ) (header at : ℕ) (has : (n : ℕ) → most ≡ some n → isSome usual ≡ true) where

@@ -8,18 +8,18 @@ use mathlib.Core.Option.{Option, none, some}
 use Prim.Native.Nat.{ℕ, zero, suc, _≤_, _<_}
 use native.Mathlib.Omega.{arith}
 use lib.Dec.{eqb}
-use borrow.Author.Tests.{not-true, not-false, ltb-false, le-ltb, eqb-true, eqb-false, eq-eqb, ne-eqb}
+use borrow.Author.Tests.{not-true, not-false, ltb-false, le-ltb, eqb-true, eqb-false, eq-eqb}
 use Rattle.answer.specs.declared.Group.{Group}
 use Rattle.answer.specs.Paper.{Check, accepted, refuse, _andThen_, first}
-use Rattle.answer.proofs.Laws.{both, never-accepted, not-refused, all-passed, each-passed}
-use Rattle.answer.proofs.Tests.{neither, not-other, never-both}
+use Rattle.answer.proofs.Laws.{both, never-given, not-refused, all-passed, each-passed}
+use Rattle.answer.proofs.Tests.{clash, neither, not-other, never-both}
 use Rattle.number.specs.Numbers.{maxBytes}
 use Rattle.sheet.specs.Blocks.{blockCount, blockAt}
 use Rattle.sheet.specs.Sheet.{isSome}
 use Rattle.types.specs.declared.BuiltinTypes.{BuiltinTypes}
 use Rattle.types.specs.declared.Arg.{Arg}
 use Rattle.types.specs.Types.{codeOf, sameType, isSlice}
-use Rattle.types.proofs.Laws.{code-one, same-type, other-type}
+use Rattle.types.proofs.Laws.{same-type, slice-is}
 use Rattle.field.specs.declared.Field.{Field}
 use Rattle.field.specs.Sound.{widthOf}
 use Rattle.expr.specs.declared.UsableAlgExpr.{UsableAlgExpr}
@@ -30,25 +30,18 @@ use Rattle.length.specs.Lengths.{Serves, Lengths}
 
 -- ---- single tests
 
--- a test that holds and does not
-clash : {X : Type 0} → true ≡ false → X
-clash e = absurd (true≢false e)
-
 -- a test of step 4 that was passed does not hold
-past : (test : Bool) (n at : ℕ) (rest : Check) → (refuse test Group.Length n at andThen rest) ≡ accepted → (test ≡ false) × (rest ≡ accepted)
+pub past : (test : Bool) (n at : ℕ) (rest : Check) → (refuse test Group.Length n at andThen rest) ≡ accepted → (test ≡ false) × (rest ≡ accepted)
 past test n at rest e = let two = both (refuse test Group.Length n at) rest e in (not-refused test Group.Length n at (two .0), two .1)
 
 -- length 6: the arg is the repr, which is no byte slice
 pub arg-is : (repr : BuiltinTypes) (arg : Arg) → (badArg repr arg ≡ false) ↔ ((arg ≡ Arg.BuiltinTypes repr) × (repr ≡ BuiltinTypes.ByteSlice → ⊥))
-arg-is repr arg = (told arg, λ p. rw (p .0, eq-eqb (codeOf repr) (codeOf repr) refl) (other (p .1)))
+arg-is repr arg = (told arg, λ p. rw (p .0, eq-eqb (codeOf repr) (codeOf repr) refl) (slice-is repr .1 (p .1)))
   where
-    other : (repr ≡ BuiltinTypes.ByteSlice → ⊥) → isSlice repr ≡ false
-    other h = ne-eqb (codeOf repr) (codeOf BuiltinTypes.ByteSlice) (λ q. h (code-one repr BuiltinTypes.ByteSlice q))
-
     told : (arg : Arg) → badArg repr arg ≡ false → (arg ≡ Arg.BuiltinTypes repr) × (repr ≡ BuiltinTypes.ByteSlice → ⊥)
     told (Arg.BuiltinTypes t) e =
         let two = neither (not (sameType t repr)) (isSlice repr) e in
-        (ap Arg.BuiltinTypes (same-type t repr (not-false (sameType t repr) (two .0))), other-type repr BuiltinTypes.ByteSlice (two .1))
+        (ap Arg.BuiltinTypes (same-type t repr (not-false (sameType t repr) (two .0))), slice-is repr .0 (two .1))
     told Arg.Code e = clash e
 
 -- a length that can be worked out, and what the test of it tells
@@ -137,7 +130,7 @@ module _ (header slot at : ℕ) (e : UsableAlgExpr) where
 
   -- where the tests are passed there is such a field
   there : (o : Option Field) → exprFault header slot at e o ≡ accepted → (f : Field) × (o ≡ some f) × Serves header slot e f
-  there none ok = absurd (never-accepted refl ok)
+  there none ok = absurd (never-given refl ok)
   there (some f) ok = (f, refl, serves f ok)
 
 module _ (s : List ℕ) (header slot : ℕ) where

@@ -1,7 +1,7 @@
 -- Step 1 accepts exactly the sheets of `Accepted`: `accepted-is`. One way the tests of each block are taken apart, and an induction over the blocks gives
 -- their order; the other way the order gives the counts that the tests see. Assumes nothing.
 use mathlib.Core.Path.{_≡_, refl, sym, ap, _∙_}
-use mathlib.Core.Bool.{Bool, true, false, cond, not, _&&_, _||_, true≢false}
+use mathlib.Core.Bool.{Bool, true, false, cond, not, _&&_, _||_}
 use mathlib.Core.List.{List}
 use mathlib.Core.Logic.{_⊎_, inl, inr, ⊎-elim, _↔_}
 use mathlib.Core.Option.{none}
@@ -15,7 +15,7 @@ use borrow.Author.Tests.{not-false, eqb-true, eq-eqb, le-ltb, ltb-false, lt-leb,
 use Rattle.answer.specs.declared.Group.{Group}
 use Rattle.answer.specs.Paper.{accepted}
 use Rattle.answer.proofs.Laws.{both, not-refused, each-passed, all-passed}
-use Rattle.answer.proofs.Tests.{never-both}
+use Rattle.answer.proofs.Tests.{clash, never-both}
 use Rattle.octets.specs.Octets.{byte, be}
 use Rattle.octets.specs.Ones.{checkHolds}
 use Rattle.sheet.specs.declared.Counts.{Counts}
@@ -48,9 +48,6 @@ passed-all b before twice i e =
       bytes = not-false _ (not-refused _ Group.Sheet 5 i (four .0));
       once = not-refused _ Group.Sheet 6 i (four .1);
     }
-
-clash : {X : Type 0} → true ≡ false → X
-clash e = absurd (true≢false e)
 
 -- a kind in its place, and not too many of it: F with no L or C before, L with no C before, or C
 data InPlace (kind : ℕ) (before : Counts) : Type 0 where

@@ -1,15 +1,15 @@
 -- A tree that step 1 lets through is one: its root stands for a tree, because the children of a node have smaller indexes. So what its form is depends on
 -- that tree alone (`same-tree` of the crate `tree`), not on nodes that the root does not reach. Assumes nothing.
 use mathlib.Core.Path.{_≡_, refl}
-use mathlib.Core.Bool.{Bool, true, false, _&&_, _||_}
+use mathlib.Core.Bool.{Bool, true, _&&_, _||_}
 use mathlib.Core.List.{List}
-use mathlib.Core.Logic.{_⊎_, inl, inr, ⊎-elim}
+use mathlib.Core.Logic.{_⊎_, ⊎-elim}
 use Prim.Native.Nat.{ℕ, zero, suc, _+_, _*_, _≤_, _<_}
 use native.Mathlib.Nat.{eq-or-lt-of-le}
 use native.Mathlib.Omega.{arith}
 use lib.Dec.{leb, ltb, eqb}
 use borrow.Author.Tests.{lt-ltb, leb-true, ltb-true}
-use Rattle.answer.proofs.Tests.{both-hold}
+use Rattle.answer.proofs.Tests.{both-hold, one-or-other}
 use Rattle.octets.specs.Octets.{byte, be, allIn, isZero}
 use Rattle.blocks.specs.Walk.{each}
 use Rattle.blocks.specs.Layout.{nodeAt, treeLayout}
@@ -21,10 +21,6 @@ use Rattle.slots.specs.Slots.{nodesIn, rootIn}
 each-last : (test : ℕ → Bool) (n : ℕ) → each test (suc n) ≡ true → (each test n ≡ true) × (test n ≡ true)
 unfolding each
 each-last test n e = both-hold (each test n) (test n) e
-
-one-or-other : (a b : Bool) → (a || b) ≡ true → (a ≡ true) ⊎ (b ≡ true)
-one-or-other true b e = inl refl
-one-or-other false b e = inr e
 
 module _ (b : List ℕ) where
   abbrev HasTree : ℕ → Type 0

@@ -8,7 +8,7 @@ use Rattle.answer.specs.declared.Group.{Group}
 use Rattle.answer.specs.declared.Refusal.{Refusal}
 use Rattle.answer.specs.declared.Verdict.{Verdict}
 use Rattle.answer.specs.Paper.{Check, gives, refused, accepted, paper, paperOf, _andThen_}
-use Rattle.answer.proofs.Laws.{stand, andThen-assoc, never-accepted}
+use Rattle.answer.proofs.Laws.{stand, andThen-assoc, never-given}
 use Rattle.answer.proofs.OneToOne.{paper-one}
 use Rattle.sheet.specs.Blocks.{blockCount, fieldCount}
 use Rattle.sheet.specs.Sheet.{sheetCheck}
@@ -46,7 +46,7 @@ module _ (s : List ℕ) where
 
 -- a refusal, with nothing changed
 refusing : (s b : List ℕ) (v : Verdict) {r : Refusal} → v ≡ Verdict.Refused r → paper v ≡ templateCheck s (length b) → TemplateBuilt s b b v
-refusing s b v is e = record { answer = e; filled = λ a. absurd (never-accepted (ap paper is) a); untouched = λ _. refl }
+refusing s b v is e = record { answer = e; filled = λ a. absurd (never-given (ap paper is) a); untouched = λ _. refl }
 
 module _ (s b : List ℕ) where
   pub built-refused : (v : Verdict) {r : Refusal} → v ≡ Verdict.Refused r → paper v ≡ (sheetCheck s andThen fieldsCheck s) → TemplateBuilt s b b v
@@ -71,4 +71,4 @@ built-one {c = c} {d} {q} {r} x y = (paper-one q r same, buffers (paper q) refl)
 
     buffers : (p : Check) → paper q ≡ p → c ≡ d
     buffers (gives _) e = filled-one (x .filled e) (y .filled (sym same ∙ e))
-    buffers (refused g n at) e = x .untouched (never-accepted e) ∙ sym (y .untouched (never-accepted (sym same ∙ e)))
+    buffers (refused g n at) e = x .untouched (never-given e) ∙ sym (y .untouched (never-given (sym same ∙ e)))

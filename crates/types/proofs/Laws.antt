@@ -2,17 +2,19 @@
 use mathlib.Core.Path.{_≡_, refl, sym, ap, _∙_}
 use mathlib.Core.Bool.{Bool, true, false, cond}
 use mathlib.Core.List.{List}
+use mathlib.Core.Logic.{_↔_}
 use Prim.Native.Nat.{ℕ}
 use lib.Seq.{slice}
 use borrow.Author.Tests.{eqb-true, eqb-false}
 use Rattle.answer.specs.declared.Group.{Group}
 use Rattle.answer.specs.Paper.{Answer, gives, refused}
 use Rattle.answer.proofs.OneToOne.{paperOf-one}
+use Rattle.answer.proofs.Tests.{fails-is}
 use Rattle.octets.specs.Octets.{same}
 use Rattle.octets.proofs.Laws.{same-equal}
 use Rattle.types.specs.declared.BuiltinTypes.{BuiltinTypes}
 use Rattle.types.specs.declared.TypeNamed.{TypeNamed}
-use Rattle.types.specs.Types.{codeOf, sameType, typeOf, typeName, typeNameOf, typeFrom, typeAnswer}
+use Rattle.types.specs.Types.{codeOf, sameType, isSlice, typeOf, typeName, typeNameOf, typeFrom, typeAnswer}
 
 -- ---- codes
 
@@ -35,6 +37,9 @@ same-type t u e = code-one t u (eqb-true (codeOf t) (codeOf u) e)
 
 pub other-type : (t u : BuiltinTypes) → sameType t u ≡ false → t ≡ u → ⊥
 other-type t u e q = eqb-false (codeOf t) (codeOf u) e (ap codeOf q)
+
+pub slice-is : (t : BuiltinTypes) → (isSlice t ≡ false) ↔ (t ≡ BuiltinTypes.ByteSlice → ⊥)
+slice-is t = (other-type t BuiltinTypes.ByteSlice, λ h. fails-is (isSlice t) .1 (λ e. h (same-type t BuiltinTypes.ByteSlice e)))
 
 -- ---- names
 

@@ -1,9 +1,10 @@
 -- `meet_in` meets its contract: what the two cut ranges have in common is empty exactly where they do not meet. Assumes nothing.
 use mathlib.Core.Path.{_≡_, sym, ap, _∙_}
 use borrow.Author.Needs.{needs}
+use Rattle.answer.proofs.Laws.{never-given}
 use Rattle.bounds.specs.Bounds.{intersection, intersectionOf}
 use Rattle.cond.specs.Ranges.{clippedIn}
-use Rattle.cond.proofs.Laws.{never-refused, in-common, meeting}
+use Rattle.cond.proofs.Laws.{in-common, meeting}
 use Rattle.cond.proofs.meet_in.Statement.{statement}
 use Rattle.cond.proofs.meet_in.Tie as tie
 
@@ -22,7 +23,7 @@ returns-2 : tie.Need-returns-2
 returns-2 c =
     let k = c .before .before in
     let a = k .before .before .before .before .args in
-    absurd (never-refused (sym (had k) ∙ ap intersectionOf (c .enum-told .given .1)) (in-common (a .b .now) (a .most) (a .j) (a .k)))
+    absurd (never-given (sym (had k) ∙ ap intersectionOf (c .enum-told .given .1)) (in-common (a .b .now) (a .most) (a .j) (a .k)))
 
 pub meet-in-spec : {M : Type 1} → statement M
 meet-in-spec =
