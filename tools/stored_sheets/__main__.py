@@ -1,18 +1,23 @@
-"""Stored test sheets for steps 1 to 5 of docs/RULES.md.
+"""Stored test sheets for steps 1 to 5 of docs/RULES.md, and stored reads and writes.
 
 The program holds a list of sheets, each with the answer that steps 1 (sheet
 1 to 6), 2 (field 1 to 7), 3 (header 1 to 6), 4 (length 1, 3 to 10 and 12) and
 5 (cond 1, 2, 4, 6, 7 and 8) must give, and writes them to one file, which is
-kept as crates/stored/data/sheets. It states the rules by itself and takes
-nothing from the crates.
+kept as crates/stored/data/sheets. To a second file, which is kept as
+crates/accesses/data/accesses, it writes reads and writes of fields (access 1 to
+5), each with its answer and the bytes after it. It states the rules by itself
+and takes nothing from the crates.
 
-    python3 tools/stored_sheets OUTFILE     writes the file
-    python3 tools/stored_sheets --show N    prints case N, counted from 0
-    python3 tools/stored_sheets --check     tests the program itself
+    python3 tools/stored_sheets OUTFILE              writes the file of sheets
+    python3 tools/stored_sheets --accesses OUTFILE   writes that of reads and writes
+    python3 tools/stored_sheets --show N             prints case N, counted from 0
+    python3 tools/stored_sheets --show-access R N    prints operation N of record R
+    python3 tools/stored_sheets --check              tests the program itself
 
-How the list is made. `answer` goes over the rules, which are stated once, in
-their order. The cases state them again: each has its answer written beside
-it. The program stops where the two differ. A case has one of these sources:
+How the list of sheets is made. `answer` goes over the rules, which are stated
+once, in their order. The cases state them again: each has its answer written
+beside it. The program stops where the two differ. A case has one of these
+sources:
 
     hand      the answer is written beside the case
     table     the answer is read from a table written by hand
@@ -39,7 +44,7 @@ The answer is group, number, place. Group 1 is sheet, 2 is field, 3 is
 header, 4 is length, 5 is cond. 0 0 0 is a sheet that passes the five steps,
 and so is accepted.
 
-The file is a sequence of records. All numbers are big-endian.
+The file of sheets is a sequence of records. All numbers are big-endian.
 
     2  P, length of the packed sheet
     2  S, length of the sheet, at most 51,200
@@ -83,11 +88,61 @@ The facts are
     if steps 1 to 5 accept it, for every C block in turn 1 byte the number of
     ranges, and for each of them 8 bytes the first and 8 bytes the last number
     that lies in it after clipping.
+
+The file of reads and writes is a sequence of records too, each a sheet and
+operations on its fields, each operation on a new buffer. All numbers are
+big-endian.
+
+    2  S, length of the sheet
+    2  N, number of operations
+    S  the sheet as it is, not packed
+       then the operations:
+    1  what: 0 read a number, 1 read bytes, 2 write a number, 3 write bytes
+    1  field index
+    1  filling of the buffer: 0 all bytes 0, 1 all bytes 255, 2 mixed: byte i is
+       (37 * i + 11) % 256
+    2  length of the buffer, at most 2,048
+    8  the number that is written or that an accepted read gives, else 0
+    2  C, count of the bytes that are written or that an accepted read gives,
+       else 0
+    1  group of the answer, as above, and 7 for access
+    1  number of the refusal, 0 where accepted
+    1  place of the refusal, 0 where accepted
+    2  offset of the first byte of the buffer that differs after the operation,
+       0 where none does
+    2  K, how many bytes there are from it to the last that differs, both
+       counted, 0 where none does
+    C  the bytes that are written or read
+    K  the bytes of the buffer after the operation, from that offset on
+
+All other bytes of the buffer are then as before.
+
+An accepted sheet has these operations for each field, in buffers one byte
+shorter than the header (where it has a byte), as long as it, and 5 bytes
+longer, each with all three fillings: both reads; to a number field writes of
+0, 1, the largest value, one more, what stands there, what would stand there in
+mixed bytes, and if it is fixed the default and one more, all as far as 64 bits
+hold them; to a byte slice writes of zeros, zeros with a last byte 1, bytes
+255, one more and one less of these, what stands there and what would in mixed
+bytes; and of the other kind, to a number field 1 byte and as many as it fills,
+to a byte slice 0 and 2^64 - 1. What stands there is written only where it can
+be read. The indexes after the last field and 255 have all four operations in
+mixed buffers of each length. Exact repeats are left out, and so are, to keep
+the file small, fillings 0 and 1 of the shorter buffer where a sheet has over
+12 fields, and for byte slices over 64 bytes those of the shorter and of the
+longer buffer. A refused sheet has all four operations for the indexes 0 and
+200 in mixed buffers of 40 bytes.
+
+These answers come from access.py alone. The tests hold it against operations
+whose outcome is stated, and each operation of the file against a second form
+that goes over single bits.
 """
 
 import sys
 from collections import Counter
 
+from access import carried_out, opened
+from accesses import access_record, all_accesses
 from answers import answer, facts
 from packing import RUN
 from records import all_cases, answer_name, record
@@ -108,6 +163,21 @@ def write(path):
     print(f"{len(content)} bytes")
 
 
+def write_accesses(path):
+    records, counts = all_accesses(), Counter()
+    content = b"".join(access_record(each) for each in records)
+    with open(path, "wb") as file:
+        file.write(content)
+    for each in records:
+        sheet = opened(each.sheet)
+        counts.update(answer_name(carried_out(sheet, operation).answer)
+                      for operation in each.operations)
+    print(f"{len(records)} sheets, {counts.total()} operations")
+    for label, count in sorted(counts.items()):
+        print(f"  {label}: {count}")
+    print(f"{len(content)} bytes")
+
+
 def show(index):
     cases = all_cases()
     if not 0 <= index < len(cases):
@@ -124,15 +194,37 @@ def show(index):
         print(f"facts: {facts(case.sheet).hex()}")
 
 
+def show_access(index, count):
+    records = all_accesses()
+    if index >= len(records):
+        sys.exit(f"there are records 0 to {len(records) - 1}")
+    each = records[index]
+    if count >= len(each.operations):
+        sys.exit(f"there are operations 0 to {len(each.operations) - 1}")
+    operation = each.operations[count]
+    outcome = carried_out(opened(each.sheet), operation)
+    print(f"record {index}: {each.title}")
+    print(operation)
+    print(f"expected: {answer_name(outcome.answer)}, place {outcome.answer[2]}")
+    print(f"read: {outcome.value}")
+    print(f"buffer after: {outcome.buffer.hex()}")
+
+
 def main(arguments):
+    numbers = [int(word) for word in arguments if word.isdigit()]
     if arguments == ["--check"]:
         check()
-    elif len(arguments) == 2 and arguments[0] == "--show" and arguments[1].isdigit():
-        show(int(arguments[1]))
+    elif len(arguments) == 2 and arguments[0] == "--accesses":
+        write_accesses(arguments[1])
+    elif len(arguments) == 2 and arguments[0] == "--show" and len(numbers) == 1:
+        show(*numbers)
+    elif len(arguments) == 3 and arguments[0] == "--show-access" and len(numbers) == 2:
+        show_access(*numbers)
     elif len(arguments) == 1 and not arguments[0].startswith("-"):
         write(arguments[0])
     else:
-        sys.exit("usage: python3 tools/stored_sheets OUTFILE | --show N | --check")
+        sys.exit("usage: python3 tools/stored_sheets OUTFILE | --accesses OUTFILE | "
+                 "--show N | --show-access R N | --check")
 
 
 if __name__ == "__main__":

@@ -1,12 +1,14 @@
-"""Reads the file back. It follows the format told in __main__.py, and nothing else.
+"""Reads both files back. It follows the formats told in __main__.py, and nothing else.
 
-So it takes nothing from the modules that write the file. It stops with an
+So it takes nothing from the modules that write the files. It stops with an
 AssertionError where a record is not as it is told.
 """
 
 from collections import namedtuple
 
 Record = namedtuple("Record", "sheet answer facts")
+# Of an operation: the bytes that it takes or gives, and those that differ after it.
+Told = namedtuple("Told", "what index filling size number data answer first run")
 
 
 class Bytes:
@@ -29,7 +31,7 @@ class Bytes:
 
 
 def read(content):
-    """All records of the file."""
+    """All records of the file of sheets."""
     source, records = Bytes(content), []
     while source.left():
         pack, size = source.number(2), source.number(2)
@@ -101,3 +103,23 @@ def read_length(source):
 
 def read_ranges(source):
     return [(source.number(8), source.number(8)) for _ in range(source.number(1))]
+
+
+def read_accesses(content):
+    """All records of the file of reads and writes, each a sheet and its operations."""
+    source, records = Bytes(content), []
+    while source.left():
+        size, count = source.number(2), source.number(2)
+        sheet = source.take(size)
+        records.append((sheet, [read_operation(source) for _ in range(count)]))
+    return records
+
+
+def read_operation(source):
+    what, index, filling = source.number(1), source.number(1), source.number(1)
+    size, number, count = source.number(2), source.number(8), source.number(2)
+    answer = source.number(1), source.number(1), source.number(1)
+    first, changed = source.number(2), source.number(2)
+    assert what <= 3 and filling <= 2 and size <= 2_048
+    return Told(what, index, filling, size, number, source.take(count), answer, first,
+                source.take(changed))

@@ -1,4 +1,4 @@
-"""All cases in their order, and the records of the file. The format is told in __main__.py."""
+"""All cases in their order, and their records. The format is told in __main__.py."""
 
 import struct
 import sys
@@ -112,7 +112,7 @@ def record(case):
     return struct.pack(">HHBBBH", *sizes, *case.expected, len(known)) + pack + known
 
 
-GROUPS = ("", "sheet", "field", "header", "length", "cond")
+GROUPS = {1: "sheet", 2: "field", 3: "header", 4: "length", 5: "cond", 7: "access"}
 
 
 def answer_name(expected):

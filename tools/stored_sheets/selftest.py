@@ -1,4 +1,8 @@
-"""The tests of this program itself. Those of steps 4 and 5 are in later_tests.py."""
+"""The tests of this program itself.
+
+Those of steps 4 and 5 are in later_tests.py, those of reads and writes in
+access_tests.py.
+"""
 
 import struct
 from unittest.mock import patch
@@ -6,6 +10,8 @@ from unittest.mock import patch
 import answers
 import lengths_and_conds
 import rules
+from access_tests import (
+    check_access_records, check_packed_accesses, check_stated_accesses)
 from answers import STEPS, answer, facts
 from blocks import field, length, lister_sheet, rfc_791_sheet, shaped, told, tree
 from cases import Cases
@@ -350,3 +356,6 @@ def check():
     wanted |= {f"cond {n}" for n in (1, 2, 4, 6, 7, 8)}
     assert labels == wanted
     print(f"{len(cases)} cases hold")
+    check_stated_accesses()
+    check_packed_accesses()
+    print(f"{check_access_records()} operations hold")

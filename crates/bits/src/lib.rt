@@ -180,9 +180,11 @@ fn zero_out(buf: &mut [u8], from: usize, count: usize)
     }
 }
 
-fn has_bits(x: u64, w: u64) -> bool
-    ensures { λ r. ⌜ r ≡ ltb x (2 ^ w) ⌝ }
+// Whether a number has no more bits than these.
+pub fn has_bits(x: u64, width: Bits) -> bool
+    ensures { λ r. ⌜ r ≡ ltb x (2 ^ width .0) ⌝ }
 {
+    let w = width.0;
     if w < 64 { x >> w == 0 } else { true }
 }
 
@@ -205,7 +207,7 @@ fn write_fitting(buf: &mut [u8], start: BitPos, width: Bits, v: u64) -> NumberWr
     requires { ⌜ fitOf (length (now buf)) (globalOf start) (width .0) ≡ Fit.Fits ⌝ }
     ensures { λ r. ⌜ NumberWritten (now (buf .entry)) (now (buf .exit)) (globalOf start) (width .0) v r ⌝ }
 {
-    if !has_bits(v, width.0) {
+    if !has_bits(v, width) {
         return NumberWrite::TooLarge;
     }
     let from = start.byte_pos().0 as usize;

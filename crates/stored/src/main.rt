@@ -1,18 +1,18 @@
 // Runs the steps over stored sheets. The file `sheets` is made by tools/stored_sheets, from the rules and not from this program; its record format
 // is told there. Prints how many sheets gave the answer, and what a sheet that passed holds, that the file has for them, and how many did not.
 use answer::Group;
-use answer::Refusal;
 use answer::Verdict;
 use bits::BytesWrite;
 use blocks::nodes::Node;
 use bounds::FirstLast;
+use definition::EntryAt;
+use definition::PlacedField;
 use expr::Length;
 use expr::UsableAlgExpr;
 use field::DefaultVal;
 use field::Field;
 use field::NewField;
 use header::FieldIndex;
-use header::FieldStart;
 use header::Header;
 use header::NewHeader;
 use libc::STDOUT_FILENO;
@@ -261,9 +261,9 @@ fn tree(r: Reading, facts: &[u8], b: &[u8]) -> Reading {
 }
 
 fn starts(r: Reading, facts: &[u8], s: &[u8], i: usize) -> Reading {
-    match header::start(s, i) {
-        FieldStart::At(p) => r.four(facts, p.to_global_pos().0),
-        FieldStart::None => r,
+    match definition::field(s, i) {
+        PlacedField::At(_, p) => r.four(facts, p.to_global_pos().0),
+        PlacedField::None => r,
     }
 }
 
@@ -274,23 +274,27 @@ fn looked_up(r: Reading, facts: &[u8], s: &[u8], b: &[u8]) -> Reading {
     }
 }
 
-fn range(r: Reading, facts: &[u8], s: &[u8], i: usize, k: u8) -> Reading {
-    match cond::range_numbers(s, i, k) {
+fn range(r: Reading, facts: &[u8], s: &[u8], k: usize, j: u8) -> Reading {
+    match definition::cond_range(s, k, j) {
         FirstLast::Are(first, last) => r.eight(facts, first).eight(facts, last),
         FirstLast::None => r.and(false),
     }
 }
 
-fn ranges(r: Reading, facts: &[u8], s: &[u8], b: &[u8], i: usize) -> Reading {
-    if octets::byte_at(b, 0) != b'C' {
-        return r;
-    }
-    let n = octets::byte_at(b, 66);
+fn all_ranges(r: Reading, facts: &[u8], s: &[u8], k: usize, n: u8) -> Reading {
     let mut r = r.byte(facts, n);
-    for k in 0..n {
-        r = range(r, facts, s, i, k);
+    for j in 0..n {
+        r = range(r, facts, s, k, j);
     }
     r
+}
+
+// Of condition k; past the last one there is nothing to say.
+fn ranges(r: Reading, facts: &[u8], s: &[u8], k: usize) -> Reading {
+    match definition::cond_entry(s, k) {
+        EntryAt::At(entry) => all_ranges(r, facts, s, k, entry.ranges),
+        EntryAt::None => r,
+    }
 }
 
 fn of_block(section: Section, r: Reading, facts: &[u8], s: &[u8], i: usize) -> Reading {
@@ -301,7 +305,7 @@ fn of_block(section: Section, r: Reading, facts: &[u8], s: &[u8], i: usize) -> R
         Section::Trees => tree(r, facts, b),
         Section::Starts => starts(r, facts, s, i),
         Section::Lookups => looked_up(r, facts, s, b),
-        Section::Ranges => ranges(r, facts, s, b, i),
+        Section::Ranges => ranges(r, facts, s, i),
     }
 }
 
@@ -323,7 +327,7 @@ fn of_sheet(s: &[u8], facts: &[u8]) -> Reading {
     of_blocks(Section::Lookups, r, facts, s)
 }
 
-// ---- the template of one that passed step 3 too, built in a buffer that holds the filling and nothing else
+// ---- the template of an accepted one, built in a buffer that holds the filling and nothing else
 
 const FILLING: u8 = 165;
 
@@ -379,21 +383,10 @@ fn is_accepted(v: Verdict) -> bool {
     }
 }
 
-fn is_room(v: Verdict, place: usize) -> bool {
-    match v {
-        Verdict::Accepted => false,
-        Verdict::Refused(r) => {
-            let paper = r.on_paper();
-            let group = paper.group;
-            (group_code(group) == 6) & (paper.number == 1) & (paper.place == place)
-        }
-    }
-}
-
-// Whether a buffer that is too short gets room 1 and keeps its bytes.
-fn is_refused(s: &[u8], short: &mut [u8]) -> bool {
-    let v = template::build_header_template(s, short);
-    is_room(v, s.len() / 512) & is_filling(short, 0)
+// Whether a buffer is refused for this reason and keeps its bytes.
+fn is_refused(s: &[u8], buf: &mut [u8], group: u8, number: u8, place: usize) -> bool {
+    let v = template::build_header_template(s, buf);
+    is_answer(v, group, number, place) & is_filling(buf, 0)
 }
 
 // So for one byte less than the header has. No buffer is shorter than a header of 0 bytes.
@@ -404,7 +397,7 @@ fn refuses_short(s: &[u8], buf: &mut [u8], len: usize) -> bool {
     if buf.len() < len {
         return false;
     }
-    is_refused(s, &mut buf[..len - 1])
+    is_refused(s, &mut buf[..len - 1], 6, 1, s.len() / 512)
 }
 
 // Whether a buffer gets the template that is packed, and keeps its other bytes.
@@ -426,14 +419,24 @@ fn builds_longer(s: &[u8], buf: &mut [u8], packed: &[u8], len: usize) -> bool {
     is_built(s, &mut buf[..len + 16], packed, len)
 }
 
-// Whether the header is as long as the facts say, and its template what they have.
-fn of_header(s: &[u8], h: Header, r: Reading, facts: &[u8], buf: &mut [u8]) -> Reading {
+// Whether the header is as long as the facts say; and, where the sheet is accepted, its template what they have.
+fn of_header(
+    s: &[u8],
+    head: &[u8],
+    h: Header,
+    r: Reading,
+    facts: &[u8],
+    buf: &mut [u8],
+) -> Reading {
     let len = h.len;
     let n = len.0 as usize;
     let r = r.four(facts, len.0);
     let rest = octets::part(facts, r.at, facts.len());
     let q = octets::be16(rest, 0);
     let packed = octets::part(rest, 2, 2 + q as usize);
+    if octets::byte_at(head, 4) != 0 {
+        return r.past(q);
+    }
     let refused = refuses_short(s, buf, n);
     let built = builds_longer(s, buf, packed, n);
     r.and(refused & built).past(q)
@@ -459,13 +462,15 @@ fn length(r: Reading, facts: &[u8], l: Length) -> Reading {
 }
 
 fn held(r: Reading, facts: &[u8], s: &[u8], k: u8) -> Reading {
-    let held = slots::slot_of(s, k).held;
+    let slot = definition::length_slot(s, k);
+    let held = slot.held;
+    let largest = slot.largest;
     match held {
         LengthField::Absent => r.byte(facts, 0),
         LengthField::Undefined => r.byte(facts, 1),
         LengthField::Expr(e) => {
             let r = form(r.byte(facts, 2), facts, e);
-            let r = length(r, facts, length::largest_length(s, k));
+            let r = length(r, facts, largest);
             length(r, facts, length::default_length(s, k))
         }
     }
@@ -489,39 +494,47 @@ fn group_code(group: Group) -> u8 {
     }
 }
 
-// Whether the record's head has this group, number and place.
-fn has_answer(head: &[u8], group: u8, number: u8, place: usize) -> bool {
-    (octets::byte_at(head, 4) == group)
-        & (octets::byte_at(head, 5) == number)
-        & (octets::byte_at(head, 6) as usize == place)
-}
-
-fn has_refusal(head: &[u8], reason: Refusal) -> bool {
-    let paper = reason.on_paper();
-    let group = paper.group;
-    has_answer(head, group_code(group), paper.number, paper.place)
-}
-
-// Whether a step refused as the record has it, with all facts read and right.
-fn ends_with(head: &[u8], reason: Refusal, r: Reading, facts: &[u8]) -> bool {
-    has_refusal(head, reason) & r.ok & (r.at == facts.len())
-}
-
-// Steps 5, 4 and 3, of a sheet that passed those before: whether each answers what the record has, three zeros for accepted, and what the sheet then
-// holds is what the facts say, with nothing left of them.
-fn fifth_step(s: &[u8], head: &[u8], r: Reading, facts: &[u8]) -> bool {
-    match cond::check(s) {
-        Verdict::Refused(reason) => ends_with(head, reason, r, facts),
-        Verdict::Accepted => {
-            let r = of_blocks(Section::Ranges, r, facts, s);
-            has_answer(head, 0, 0, 0) & r.ok & (r.at == facts.len())
+// Whether a verdict has this group, number and place, three zeros for accepted.
+fn is_answer(v: Verdict, group: u8, number: u8, place: usize) -> bool {
+    match v {
+        Verdict::Accepted => (group == 0) & (number == 0) & (place == 0),
+        Verdict::Refused(reason) => {
+            let paper = reason.on_paper();
+            let named = paper.group;
+            (group_code(named) == group) & (paper.number == number) & (paper.place == place)
         }
     }
 }
 
+// Whether a verdict is the one that the record's head has.
+fn has_answer(head: &[u8], v: Verdict) -> bool {
+    is_answer(
+        v,
+        octets::byte_at(head, 4),
+        octets::byte_at(head, 5),
+        octets::byte_at(head, 6) as usize,
+    )
+}
+
+// Whether a step answers as the record has it, with all facts read and right.
+fn ends_with(head: &[u8], v: Verdict, r: Reading, facts: &[u8]) -> bool {
+    has_answer(head, v) & r.ok & (r.at == facts.len())
+}
+
+// Steps 5, 4 and 3, of a sheet that passed those before: whether each answers what the record has, and what the sheet then holds is what the facts
+// say, with nothing left of them.
+fn fifth_step(s: &[u8], head: &[u8], r: Reading, facts: &[u8]) -> bool {
+    let v = cond::check(s);
+    match v {
+        Verdict::Refused(_) => ends_with(head, v, r, facts),
+        Verdict::Accepted => ends_with(head, v, of_blocks(Section::Ranges, r, facts, s), facts),
+    }
+}
+
 fn fourth_step(s: &[u8], h: Header, head: &[u8], r: Reading, facts: &[u8]) -> bool {
-    match length::check(s, h) {
-        Verdict::Refused(reason) => ends_with(head, reason, r, facts),
+    let v = length::check(s, h);
+    match v {
+        Verdict::Refused(_) => ends_with(head, v, r, facts),
         Verdict::Accepted => fifth_step(s, head, of_lengths(s, r, facts), facts),
     }
 }
@@ -529,20 +542,37 @@ fn fourth_step(s: &[u8], h: Header, head: &[u8], r: Reading, facts: &[u8]) -> bo
 fn third_step(s: &[u8], head: &[u8], facts: &[u8], buf: &mut [u8]) -> bool {
     let r = of_sheet(s, facts);
     match Header::new(s) {
-        NewHeader::Refused(reason) => ends_with(head, reason, r, facts),
+        NewHeader::Refused(reason) => ends_with(head, Verdict::Refused(reason), r, facts),
         NewHeader::Is(h) => {
-            let r = of_header(s, h, r, facts, buf);
+            let r = of_header(s, head, h, r, facts, buf);
             fourth_step(s, h, head, r, facts)
         }
     }
 }
 
-// Whether the answer is the one that the record has, and what a sheet holds that passed.
-fn is_expected(s: &[u8], head: &[u8], facts: &[u8], buf: &mut [u8]) -> bool {
-    match sheet::check(s).and_then(fields::check(s)) {
-        Verdict::Refused(reason) => has_refusal(head, reason),
+fn by_steps(s: &[u8], head: &[u8], facts: &[u8], buf: &mut [u8]) -> bool {
+    let v = sheet::check(s).and_then(fields::check(s));
+    match v {
+        Verdict::Refused(_) => has_answer(head, v),
         Verdict::Accepted => third_step(s, head, facts, buf),
     }
+}
+
+// Whether the template of a refused sheet is refused as the sheet is. (That of an accepted one is built.)
+fn no_template(s: &[u8], head: &[u8]) -> bool {
+    let group = octets::byte_at(head, 4);
+    if group == 0 {
+        return true;
+    }
+    let number = octets::byte_at(head, 5);
+    let place = octets::byte_at(head, 6) as usize;
+    let mut buf = [FILLING; 16];
+    is_refused(s, &mut buf, group, number, place)
+}
+
+// Whether the verdict is the one that the record has, and so are the steps, one by one, and what a sheet holds that passed them.
+fn is_expected(s: &[u8], head: &[u8], facts: &[u8], buf: &mut [u8]) -> bool {
+    has_answer(head, definition::check(s)) & no_template(s, head) & by_steps(s, head, facts, buf)
 }
 
 // One record: its head, the packed sheet, the facts.

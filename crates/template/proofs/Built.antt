@@ -7,58 +7,46 @@ use borrow.Author.Tests.{lt-ltb, le-ltb}
 use Rattle.answer.specs.declared.Group.{Group}
 use Rattle.answer.specs.declared.Refusal.{Refusal}
 use Rattle.answer.specs.declared.Verdict.{Verdict}
-use Rattle.answer.specs.Paper.{Check, gives, refused, accepted, paper, paperOf, _andThen_}
-use Rattle.answer.proofs.Laws.{stand, andThen-assoc, never-given}
+use Rattle.answer.specs.Paper.{Check, gives, refused, accepted, paper, paperOf}
+use Rattle.answer.proofs.Laws.{stand, never-given}
 use Rattle.answer.proofs.OneToOne.{paper-one}
 use Rattle.sheet.specs.Blocks.{blockCount, fieldCount}
-use Rattle.sheet.specs.Sheet.{sheetCheck}
-use Rattle.fields.specs.Step.{fieldsCheck}
 use Rattle.layout.specs.Layout.{Filled}
 use Rattle.layout.proofs.Filled.{filled-one}
 use Rattle.header.specs.Places.{layoutOf}
-use Rattle.header.specs.Step.{headerCheck, headerBytes}
-use Rattle.template.specs.Template.{threeSteps, templateCheck, TemplateBuilt}
+use Rattle.header.specs.Step.{headerBytes}
+use Rattle.definition.specs.Definition.{definitionCheck}
+use Rattle.template.specs.Template.{templateCheck, TemplateBuilt}
 
 -- ---- what is answered
 
 module _ (s : List ℕ) where
-  -- steps 1 and 2 together, then step 3
-  two-refuse : {g : Group} {n at : ℕ} → (sheetCheck s andThen fieldsCheck s) ≡ refused g n at → threeSteps s ≡ refused g n at
-  two-refuse e = sym (andThen-assoc (sheetCheck s) (fieldsCheck s) (headerCheck s)) ∙ stand (headerCheck s) e
-
-  pub two-passed : (sheetCheck s andThen fieldsCheck s) ≡ accepted → threeSteps s ≡ headerCheck s
-  two-passed e = sym (andThen-assoc (sheetCheck s) (fieldsCheck s) (headerCheck s)) ∙ ap (λ (x : Check). x andThen headerCheck s) e
-
-  -- then the room
-  steps-refuse : (n : ℕ) {g : Group} {k at : ℕ} → threeSteps s ≡ refused g k at → templateCheck s n ≡ refused g k at
+  steps-refuse : (n : ℕ) {g : Group} {k at : ℕ} → definitionCheck s ≡ refused g k at → templateCheck s n ≡ refused g k at
   unfolding templateCheck
   steps-refuse n e = stand _ e
 
-  no-room : (n : ℕ) → threeSteps s ≡ accepted → n < headerBytes s → templateCheck s n ≡ refused Group.Room 1 (blockCount s)
+  no-room : (n : ℕ) → definitionCheck s ≡ accepted → n < headerBytes s → templateCheck s n ≡ refused Group.Room 1 (blockCount s)
   unfolding templateCheck
   no-room n e h = rw (e, lt-ltb n (headerBytes s) h)
 
-  has-room : (n : ℕ) → threeSteps s ≡ accepted → headerBytes s ≤ n → templateCheck s n ≡ accepted
+  has-room : (n : ℕ) → definitionCheck s ≡ accepted → headerBytes s ≤ n → templateCheck s n ≡ accepted
   unfolding templateCheck
   has-room n e h = rw (e, le-ltb n (headerBytes s) h)
 
 -- ---- the contract
 
 -- a refusal, with nothing changed
-refusing : (s b : List ℕ) (v : Verdict) {r : Refusal} → v ≡ Verdict.Refused r → paper v ≡ templateCheck s (length b) → TemplateBuilt s b b v
-refusing s b v is e = record { answer = e; filled = λ a. absurd (never-given (ap paper is) a); untouched = λ _. refl }
+refusing : (s b : List ℕ) (r : Refusal) → paperOf r ≡ templateCheck s (length b) → TemplateBuilt s b b (Verdict.Refused r)
+refusing s b r e = record { answer = e; filled = λ a. absurd (never-given refl a); untouched = λ _. refl }
 
 module _ (s b : List ℕ) where
-  pub built-refused : (v : Verdict) {r : Refusal} → v ≡ Verdict.Refused r → paper v ≡ (sheetCheck s andThen fieldsCheck s) → TemplateBuilt s b b v
-  built-refused v is e = refusing s b v is (ap paper is ∙ sym (steps-refuse s (length b) (two-refuse s (sym e ∙ ap paper is))))
+  pub built-refused : (r : Refusal) → definitionCheck s ≡ paperOf r → TemplateBuilt s b b (Verdict.Refused r)
+  built-refused r e = refusing s b r (sym (steps-refuse s (length b) e))
 
-  pub built-no-header : (r : Refusal) → threeSteps s ≡ headerCheck s → headerCheck s ≡ paperOf r → TemplateBuilt s b b (Verdict.Refused r)
-  built-no-header r before e = refusing s b (Verdict.Refused r) refl (sym (steps-refuse s (length b) (before ∙ e)))
+  pub built-no-room : (r : Refusal) → paper (Verdict.Refused r) ≡ refused Group.Room 1 (blockCount s) → definitionCheck s ≡ accepted → length b < headerBytes s → TemplateBuilt s b b (Verdict.Refused r)
+  built-no-room r is ok h = refusing s b r (is ∙ sym (no-room s (length b) ok h))
 
-  pub built-no-room : (r : Refusal) → paper (Verdict.Refused r) ≡ refused Group.Room 1 (blockCount s) → threeSteps s ≡ accepted → length b < headerBytes s → TemplateBuilt s b b (Verdict.Refused r)
-  built-no-room r is ok h = refusing s b (Verdict.Refused r) refl (is ∙ sym (no-room s (length b) ok h))
-
-  pub built : (c : List ℕ) → threeSteps s ≡ accepted → headerBytes s ≤ length b → Filled (layoutOf s) (fieldCount s) b c → TemplateBuilt s b c Verdict.Accepted
+  pub built : (c : List ℕ) → definitionCheck s ≡ accepted → headerBytes s ≤ length b → Filled (layoutOf s) (fieldCount s) b c → TemplateBuilt s b c Verdict.Accepted
   built c ok h f = record { answer = sym (has-room s (length b) ok h); filled = λ _. f; untouched = λ n. absurd (n refl) }
 
 -- ---- one answer, and one buffer after it

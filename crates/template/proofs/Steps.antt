@@ -1,4 +1,4 @@
--- A sheet that passed steps 1 to 3: each of its fields can be filled where it starts, and a buffer that is filled field after field is filled.
+-- An accepted sheet: each of its fields can be filled where it starts, and a buffer that is filled field after field is filled.
 -- Assumes nothing.
 use mathlib.Core.Path.{_≡_, refl, ap, _∙_}
 use mathlib.Core.List.{List}
@@ -8,24 +8,23 @@ use native.Mathlib.Omega.{arith}
 use lib.ListN.{length}
 use lib.Seq.{length-slice}
 use borrow.Author.Tests.{lt-ltb}
-use Rattle.answer.specs.Paper.{accepted}
-use Rattle.answer.proofs.Laws.{both}
 use Rattle.number.specs.Numbers.{maxBytes}
 use Rattle.bits.specs.Writes.{put}
 use Rattle.sheet.specs.Blocks.{blockCount, blockAt, fieldCount}
-use Rattle.sheet.specs.Sheet.{sheetCheck}
 use Rattle.sheet.proofs.Accepted.{accepted-is}
 use Rattle.field.specs.Sound.{widthOf}
-use Rattle.fields.specs.Step.{fieldAt, fieldsCheck}
+use Rattle.fields.specs.Step.{fieldAt}
 use Rattle.fields.proofs.Laws.{field-sound}
 use Rattle.layout.specs.Layout.{HeaderField, field, start, width, Filled}
 use Rattle.layout.proofs.Places.{within}
 use Rattle.layout.proofs.Filled.{filled-more}
 use Rattle.header.specs.Places.{defaultNumber, layoutOf, startAt, bitsOf}
-use Rattle.header.specs.Step.{headerCheck, headerBytes}
+use Rattle.header.specs.Step.{headerBytes}
 use Rattle.header.proofs.Places.{layout-length, layout-field, layout-bits, layout-start, field-inside}
 use Rattle.header.proofs.Laid.{laid, good-field, good}
-use Rattle.template.specs.Template.{threeSteps, Fillable}
+use Rattle.definition.specs.Definition.{Accepted}
+use Rattle.definition.proofs.Laws.{Passed, passed-all}
+use Rattle.template.specs.Template.{Fillable}
 use Rattle.template.proofs.Laws.{f-stated, span-inside}
 
 -- a block has 512 bytes
@@ -38,25 +37,25 @@ filled-at : (fs : List HeaderField) (i : ℕ) {b : List ℕ} (c : List ℕ) {s w
     → (field fs i) .default < 2 ^ width fs i → start fs i + width fs i ≤ 8 * length b → Filled fs i b c → Filled fs (i + 1) b (put c s w d)
 filled-at fs i c at wide holds fits room before = rw (← at, ← wide, ← holds) (filled-more fs i refl fits room before)
 
-module _ (s : List ℕ) (ok : threeSteps s ≡ accepted) where
-  steps : (sheetCheck s ≡ accepted) × (fieldsCheck s ≡ accepted) × (headerCheck s ≡ accepted)
-  steps = let two = both (sheetCheck s) _ ok in let three = both (fieldsCheck s) (headerCheck s) (two .1) in (two .0, three .0, three .1)
+module _ (s : List ℕ) (ok : Accepted s) where
+  steps : Passed s
+  steps = passed-all s ok
 
   -- the header is whole bytes, and few
   pub whole-bytes : bitsOf s ≡ 8 * headerBytes s
-  whole-bytes = omega (arith, laid s (steps .2) .whole)
+  whole-bytes = omega (arith, laid s (steps .header) .whole)
 
   pub few-bytes : headerBytes s ≤ maxBytes
-  few-bytes = laid s (steps .2) .most
+  few-bytes = laid s (steps .header) .most
 
   module _ (i : ℕ) (h : i < fieldCount s) where
     pub fillable : (buf : List ℕ) → bitsOf s ≤ 8 * length buf → Fillable buf (blockAt s i) (fieldAt s i) (startAt s i)
     fillable buf room =
-        let a = accepted-is s .0 (steps .0) in
+        let a = accepted-is s .0 (steps .sheet) in
         let there : i < blockCount s = omega (arith, a .no-others) in
         record {
-          sound = field-sound s (steps .1) i h;
-          good = good-field s (steps .1) (steps .2) i h;
+          sound = field-sound s (steps .fields) i h;
+          good = good-field s (steps .fields) (steps .header) i h;
           room = omega (arith, field-inside s i h);
           inside = λ span e. omega (arith, span-inside (blockAt s i) (f-stated (blockAt s i) (a .f-first i h) (a .laid-out i there)) span e, block-long s i there);
         }
@@ -67,5 +66,5 @@ module _ (s : List ℕ) (ok : threeSteps s ≡ accepted) where
     filled-next {b} {c} room before =
         let is = layout-field s i h in
         filled-at (layoutOf s) i c (layout-start s i (le-of-lt h)) (ap (λ (f : HeaderField). f .width) is) (ap (λ (f : HeaderField). f .default) is)
-        (good s (steps .1) (steps .2) .each i (rw (layout-length s) h) .default-fits)
+        (good s (steps .fields) (steps .header) .each i (rw (layout-length s) h) .default-fits)
         (omega (arith, within (layoutOf s) i, layout-bits s)) before

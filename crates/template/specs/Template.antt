@@ -8,23 +8,18 @@ use Rattle.answer.specs.declared.Group.{Group}
 use Rattle.answer.specs.declared.Verdict.{Verdict}
 use Rattle.answer.specs.Paper.{Check, accepted, paper, refuse, _andThen_}
 use Rattle.sheet.specs.Blocks.{blockCount, fieldCount}
-use Rattle.sheet.specs.Sheet.{sheetCheck}
 use Rattle.field.specs.declared.Span.{Span}
 use Rattle.field.specs.declared.DefaultVal.{DefaultVal}
 use Rattle.field.specs.declared.Field.{Field}
 use Rattle.field.specs.Sound.{Sound, widthOf}
-use Rattle.fields.specs.Step.{fieldsCheck}
 use Rattle.layout.specs.Layout.{GoodField, Filled}
 use Rattle.header.specs.Places.{placed, layoutOf}
-use Rattle.header.specs.Step.{headerCheck, headerBytes}
+use Rattle.header.specs.Step.{headerBytes}
+use Rattle.definition.specs.Definition.{definitionCheck}
 
--- steps 1 to 3
-abbrev pub threeSteps : List ℕ → Check
-threeSteps s = sheetCheck s andThen fieldsCheck s andThen headerCheck s
-
--- then room 1, with the block count as its place: a buffer of n bytes is shorter than the header
+-- steps 1 to 5, then room 1, with the block count as its place: a buffer of n bytes is shorter than the header
 unfoldable pub templateCheck : List ℕ → ℕ → Check
-templateCheck s n = threeSteps s andThen refuse (ltb n (headerBytes s)) Group.Room 1 (blockCount s)
+templateCheck s n = definitionCheck s andThen refuse (ltb n (headerBytes s)) Group.Room 1 (blockCount s)
 
 -- the answer, and the buffer b' after it: every field reads as its default and the rest is as it was, or nothing is changed
 pub record TemplateBuilt (s b b' : List ℕ) (r : Verdict) : Type 0 where

@@ -16,14 +16,14 @@ ghost use mathlib.Core.Logic.{_⊎_};
 ghost use Prim.Native.Nat.{_+_, _*_, _≤_};
 ghost use lib.ListN.{length};
 ghost use lib.Seq.{slice};
-ghost use Rattle.answer.specs.Paper.{accepted};
 ghost use Rattle.bits.specs.Bits.{spelled};
 ghost use Rattle.bits.specs.Writes.{put};
 ghost use Rattle.sheet.specs.Blocks.{fieldCount};
 ghost use Rattle.layout.specs.Layout.{Filled};
 ghost use Rattle.header.specs.Places.{defaultNumber, layoutOf, bitsOf};
 ghost use Rattle.header.specs.Step.{headerOf};
-ghost use Rattle.template.specs.Template.{threeSteps, TemplateBuilt, Fillable};
+ghost use Rattle.definition.specs.Definition.{Accepted};
+ghost use Rattle.template.specs.Template.{TemplateBuilt, Fillable};
 
 // Fills a byte slice with the bytes of the span, or with zeros where none are stated.
 fn fill_bytes(buf: &mut [u8], from: Bytes, count: Bytes, b: &[u8], span: Span)
@@ -57,9 +57,9 @@ fn fill_field(buf: &mut [u8], b: &[u8], f: Field, start: Bits)
     }
 }
 
-// Fills the header of a sheet that passed.
+// Fills the header of an accepted sheet.
 fn fill(s: &[u8], buf: &mut [u8], n: usize)
-    requires { ⌜ threeSteps (now s) ≡ accepted ⌝ }
+    requires { ⌜ Accepted (now s) ⌝ }
     requires { ⌜ (n ≡ fieldCount (now s)) × (bitsOf (now s) ≤ 8 * length (now buf)) ⌝ }
     ensures { λ _. ⌜ Filled (layoutOf (now (s .entry))) (fieldCount (now (s .entry))) (now (buf .entry)) (now (buf .exit)) ⌝ }
 {
@@ -76,7 +76,7 @@ fn fill(s: &[u8], buf: &mut [u8], n: usize)
 
 // Room 1, or the header filled.
 fn fill_header(s: &[u8], buf: &mut [u8], h: Header) -> Verdict
-    requires { ⌜ threeSteps (now s) ≡ accepted ⌝ }
+    requires { ⌜ Accepted (now s) ⌝ }
     requires { ⌜ h ≡ headerOf (now s) ⌝ }
     ensures { λ r. ⌜ TemplateBuilt (now (s .entry)) (now (buf .entry)) (now (buf .exit)) r ⌝ }
 {
@@ -88,15 +88,11 @@ fn fill_header(s: &[u8], buf: &mut [u8], h: Header) -> Verdict
     Verdict::Accepted
 }
 
-// Steps 1 to 3 and room 1; past them the buffer has the template in front.
+// Steps 1 to 5 and room 1; past them the buffer has the template in front.
 pub fn build_header_template(s: &[u8], buf: &mut [u8]) -> Verdict
     ensures { λ r. ⌜ TemplateBuilt (now (s .entry)) (now (buf .entry)) (now (buf .exit)) r ⌝ }
 {
-    let v = sheet::check(s).and_then(fields::check(s));
-    if let Verdict::Refused(_) = v {
-        return v;
-    }
-    match Header::new(s) {
+    match definition::header(s) {
         NewHeader::Refused(reason) => Verdict::Refused(reason),
         NewHeader::Is(h) => fill_header(s, buf, h),
     }

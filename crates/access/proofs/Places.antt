@@ -1,0 +1,136 @@
+-- The places of an accepted sheet: reading and writing there is reading and writing the field. Step 3 leaves each field in the header, with the shape of
+-- what it holds; so each test at the place is the field's. Assumes nothing.
+use mathlib.Core.Path.{_≡_, refl, sym, ap, _∙_}
+use mathlib.Core.Bool.{Bool, true, false, not, _&&_, Bool·beq}
+use mathlib.Core.List.{List}
+use Prim.Native.Nat.{ℕ, _+_, _*_, _/_, _%_, _≤_, _<_}
+use native.Mathlib.Nat.{le-of-lt}
+use native.Mathlib.Omega.{arith}
+use lib.Dec.{leb, ltb, eqb}
+use lib.ListN.{length, take, drop}
+use borrow.Author.Tests.{le-leb, lt-leb, ltb-true, lt-ltb, eq-eqb}
+use Rattle.answer.specs.declared.Group.{Group}
+use Rattle.answer.specs.Paper.{Check, gives, refuse, _andThen_}
+use Rattle.bits.specs.Bits.{value, touched}
+use Rattle.bits.specs.Writes.{put}
+use Rattle.sheet.specs.Blocks.{blockAt, fieldCount}
+use Rattle.types.specs.declared.BuiltinTypes.{BuiltinTypes}
+use Rattle.types.specs.Types.{isSlice}
+use Rattle.types.proofs.Laws.{same-type}
+use Rattle.field.specs.declared.DefaultVal.{DefaultVal}
+use Rattle.field.specs.declared.Field.{Field}
+use Rattle.field.specs.Sound.{Sound, widthOf}
+use Rattle.fields.specs.Step.{fieldAt}
+use Rattle.fields.proofs.Laws.{field-sound}
+use Rattle.layout.specs.Layout.{HeaderField, GoodField, field, bits, start, width}
+use Rattle.layout.specs.Access.{Value, number, bytes, ofBytes, says, fits, reach, suit, valueAt, read, write, writeCheck, after, apply}
+use Rattle.header.specs.Places.{defaultNumber, headerField, layoutOf, startAt, bitsOf}
+use Rattle.header.specs.Step.{headerBytes}
+use Rattle.header.proofs.Places.{layout-length, layout-field, layout-bits, layout-start, field-inside}
+use Rattle.header.proofs.Laid.{laid, good-field}
+use Rattle.definition.specs.Definition.{Accepted}
+use Rattle.definition.proofs.Laws.{Passed, passed-all}
+use Rattle.place.specs.declared.Place.{Place}
+use Rattle.place.specs.declared.Held.{Held}
+use Rattle.place.specs.Place.{headerIn, firstBit, bitsIn, isBytes, hasShape, isPlace, fixedOff, reachAt, suitAt, writeCheckAt, valueHere, readAt, applyAt}
+use Rattle.place.proofs.Laws.{same-test}
+use Rattle.access.specs.Access.{numberOf, heldOf, placeOf}
+
+-- ---- what a field holds
+
+held-bytes : (slice : Bool) (f : Field) → isBytes (heldOf slice f) ≡ slice
+held-bytes true f = refl
+held-bytes false f = refl
+
+held-shape : (slice : Bool) (f : Field) (s w : ℕ) → (slice ≡ false → touched s w ≤ 8) → (slice ≡ true → s % 8 ≡ 0) → (slice ≡ true → w % 8 ≡ 0) → hasShape (heldOf slice f) s w ≡ true
+held-shape true f s w narrow boundary whole = rw (eq-eqb (s % 8) 0 (boundary refl), eq-eqb (w % 8) 0 (whole refl))
+held-shape false f s w narrow boundary whole = le-leb (touched s w) 8 (narrow refl)
+
+-- the default of a number field is a number
+number-default : (b : List ℕ) (f : Field) → Sound f → isSlice (f .repr) ≡ false → numberOf (f .default) ≡ defaultNumber b (f .default)
+number-default b f sound no-slice = by-kind (f .default) refl
+  where
+    by-kind : (d : DefaultVal) → f .default ≡ d → numberOf d ≡ defaultNumber b d
+    by-kind (DefaultVal.Num n) e = refl
+    by-kind (DefaultVal.Bool t) e = absurd (sound .no-bool-default t e)
+    by-kind (DefaultVal.Bytes span) e = let is : isSlice (f .repr) ≡ true = ap isSlice (sound .bytes-field span e) in cc
+
+held-fixed : (slice : Bool) (f : Field) (d : ℕ) (v : Value) → (slice ≡ false → numberOf (f .default) ≡ d) → (slice ≡ true → f .fixed ≡ false)
+    → fixedOff (heldOf slice f) v ≡ (f .fixed && not (eqb (says v) d))
+held-fixed true f d v default free = rw (free refl)
+held-fixed false f d v default free = rw (default refl)
+
+-- ---- the place of field i
+
+-- a buffer is shorter than a header of whole bytes by bits where it is by bytes
+shorter-is : (n h : ℕ) → ltb n h ≡ ltb (8 * n) (8 * h)
+shorter-is n h = same-test (ltb n h) (ltb (8 * n) (8 * h)) (λ e. lt-ltb (8 * n) (8 * h) (omega (arith, ltb-true n h e))) (λ e. lt-ltb n h (omega (arith, ltb-true (8 * n) (8 * h) e)))
+
+module _ (s : List ℕ) (ok : Accepted s) (i : ℕ) (h : i < fieldCount s) where
+  steps : Passed s
+  steps = passed-all s ok
+
+  stands : GoodField (startAt s i) (headerField s i)
+  stands = good-field s (steps .fields) (steps .header) i h
+
+  -- a field stands there
+  is-place : isPlace (placeOf s i) ≡ true
+  unfolding isPlace
+  is-place = rw (
+    le-leb (startAt s i + widthOf (fieldAt s i)) (8 * headerBytes s) (omega (arith, field-inside s i h, laid s (steps .header) .whole)),
+    held-shape (isSlice ((fieldAt s i) .repr)) (fieldAt s i) (startAt s i) (widthOf (fieldAt s i)) (stands .number) (stands .boundary) (stands .whole-bytes),
+  )
+
+  -- where the layout has it
+  start-is : start (layoutOf s) i ≡ startAt s i
+  start-is = layout-start s i (le-of-lt h)
+
+  field-is : field (layoutOf s) i ≡ headerField s i
+  field-is = layout-field s i h
+
+  width-is : width (layoutOf s) i ≡ widthOf (fieldAt s i)
+  width-is = ap (λ (f : HeaderField). f .width) field-is
+
+  bits-are : bits (layoutOf s) ≡ 8 * headerBytes s
+  bits-are = omega (arith, layout-bits s, laid s (steps .header) .whole)
+
+  -- access 1 to 3
+  pub reach-same : (n : ℕ) (asBytes : Bool) → reachAt (placeOf s i) n asBytes ≡ reach (layoutOf s) n asBytes i
+  unfolding reachAt reach
+  reach-same n asBytes = rw (
+    is-place,
+    layout-length s,
+    lt-leb (fieldCount s) i h,
+    shorter-is n (headerBytes s),
+    held-bytes (isSlice ((fieldAt s i) .repr)) (fieldAt s i),
+    field-is,
+    bits-are,
+  )
+
+  -- what is read
+  value-same : (b : List ℕ) (asBytes : Bool) → valueHere (placeOf s i) b asBytes ≡ valueAt (layoutOf s) b asBytes i
+  value-same b true = rw (start-is, width-is)
+  value-same b false = rw (start-is, width-is)
+
+  pub read-same : (b : List ℕ) (asBytes : Bool) → readAt (placeOf s i) b asBytes ≡ read (layoutOf s) b asBytes i
+  unfolding readAt read
+  read-same b asBytes = rw (reach-same (length b) asBytes, value-same b asBytes)
+
+  -- access 4 and 5
+  suit-same : (v : Value) → suitAt (placeOf s i) v ≡ suit (field (layoutOf s) i) v i
+  unfolding suitAt suit
+  suit-same v =
+      let f = fieldAt s i in
+      rw (
+        field-is,
+        held-fixed (isSlice (f .repr)) f (defaultNumber (blockAt s i) (f .default)) v (number-default (blockAt s i) f (field-sound s (steps .fields) i h)) (stands .free),
+      )
+
+  -- and the buffer after a write
+  pub write-check-same : (n : ℕ) (v : Value) → writeCheckAt (placeOf s i) n v ≡ writeCheck (layoutOf s) n (write i v)
+  unfolding writeCheckAt writeCheck
+  write-check-same n v = rw (reach-same n (ofBytes v), suit-same v)
+
+  pub apply-same : (b : List ℕ) (v : Value) → applyAt (placeOf s i) b v ≡ apply (layoutOf s) b (write i v)
+  unfolding applyAt apply
+  apply-same b v = rw (write-check-same (length b) v, start-is, width-is)

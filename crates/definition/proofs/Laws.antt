@@ -1,0 +1,70 @@
+-- The five steps, taken two, one and two at a time as the program takes them; what an accepted sheet passed; and that what the program's answers say
+-- tells them apart. Assumes nothing.
+use mathlib.Core.Path.{_≡_, refl, sym, ap, _∙_}
+use mathlib.Core.List.{List}
+use mathlib.Core.Option.{some}
+use Prim.Native.Nat.{ℕ}
+use Rattle.answer.specs.declared.Refusal.{Refusal}
+use Rattle.answer.specs.declared.Verdict.{Verdict}
+use Rattle.answer.specs.Paper.{Answer, gives, refused, Check, accepted, paperOf, paper, _andThen_}
+use Rattle.answer.proofs.Laws.{stand, both, given, not-given, passed}
+use Rattle.sheet.specs.Sheet.{sheetCheck}
+use Rattle.fields.specs.Step.{fieldsCheck}
+use Rattle.header.specs.declared.Header.{Header}
+use Rattle.header.specs.declared.NewHeader.{NewHeader}
+use Rattle.header.specs.Step.{headerCheck, headerBytes, headerOf, newHeader, headerAnswer}
+use Rattle.length.specs.Step.{lengthCheck}
+use Rattle.cond.specs.Step.{condCheck}
+use Rattle.definition.specs.Definition.{definitionCheck, Accepted, definedHeader}
+
+-- ---- the steps as they are taken
+
+regroup : {A : Type 0} (a b c d e : Check) (y : Answer A) → ((a andThen b andThen c andThen d andThen e) andThen y) ≡ ((a andThen b) andThen c andThen d andThen e andThen y)
+regroup (refused g n at) b c d e y = refl
+regroup (gives _) (refused g n at) c d e y = refl
+regroup (gives _) (gives _) (refused g n at) d e y = refl
+regroup (gives _) (gives _) (gives _) (refused g n at) e y = refl
+regroup (gives _) (gives _) (gives _) (gives _) e y = refl
+
+module _ (s : List ℕ) where
+  -- steps 4 and 5 of a sheet with this header
+  abbrev restOf : Header → Answer Header
+  restOf h = lengthCheck s (h .len .0) andThen condCheck s andThen gives h
+
+  two-one-two : definedHeader s ≡ ((sheetCheck s andThen fieldsCheck s) andThen headerCheck s andThen restOf (headerOf s))
+  unfolding definitionCheck
+  two-one-two = regroup (sheetCheck s) (fieldsCheck s) (headerCheck s) (lengthCheck s (headerBytes s)) (condCheck s) (gives (headerOf s))
+
+  pub refused-early : {v : Verdict} {r : Refusal} → v ≡ Verdict.Refused r → paper v ≡ (sheetCheck s andThen fieldsCheck s) → paperOf r ≡ definedHeader s
+  refused-early is e = sym (two-one-two ∙ stand _ (sym e ∙ ap paper is))
+
+  -- past step 2
+  module _ {v : Verdict} (ok : v ≡ Verdict.Accepted) (e : paper v ≡ (sheetCheck s andThen fieldsCheck s)) where
+    two-passed : definedHeader s ≡ (headerCheck s andThen restOf (headerOf s))
+    two-passed = two-one-two ∙ ap (λ (x : Check). x andThen headerCheck s andThen restOf (headerOf s)) (passed ok e)
+
+    pub refused-third : {n : NewHeader} {r : Refusal} → n ≡ NewHeader.Refused r → headerAnswer n ≡ newHeader s → paperOf r ≡ definedHeader s
+    refused-third is h = sym (two-passed ∙ stand _ (not-given (headerCheck s) (headerOf s) (sym h ∙ ap headerAnswer is)))
+
+    pub third-passed : {n : NewHeader} {h : Header} → n ≡ NewHeader.Is h → headerAnswer n ≡ newHeader s → {r : Answer Header} → r ≡ restOf h → r ≡ definedHeader s
+    third-passed {h = h} is e' rest =
+        let got = given (headerCheck s) (sym e' ∙ ap headerAnswer is) in
+        rest ∙ sym (two-passed ∙ ap (λ (x : Check). x andThen restOf (headerOf s)) (got .0) ∙ ap restOf (got .1))
+
+-- ---- an accepted sheet passed each step
+
+pub record Passed (s : List ℕ) : Type 0 where
+  pub sheet : sheetCheck s ≡ accepted
+  pub fields : fieldsCheck s ≡ accepted
+  pub header : headerCheck s ≡ accepted
+  pub length : lengthCheck s (headerBytes s) ≡ accepted
+  pub conds : condCheck s ≡ accepted
+
+pub passed-all : (s : List ℕ) → Accepted s → Passed s
+unfolding definitionCheck
+passed-all s ok =
+    let after1 = both (sheetCheck s) _ ok in
+    let after2 = both (fieldsCheck s) _ (after1 .1) in
+    let after3 = both (headerCheck s) _ (after2 .1) in
+    let after4 = both (lengthCheck s (headerBytes s)) (condCheck s) (after3 .1) in
+    record { sheet = after1 .0; fields = after2 .0; header = after3 .0; length = after4 .0; conds = after4 .1 }

@@ -1,0 +1,29 @@
+-- `Place::read_bytes` meets its contract: a refusal stands, and past it the run is read. Assumes nothing.
+use mathlib.Core.Path.{sym, ap, _∙_}
+use borrow.Author.Needs.{needs}
+use Rattle.answer.specs.Paper.{paper}
+use Rattle.answer.proofs.Laws.{passed}
+use Rattle.place.proofs.Laws.{bytes-given, read-refused}
+use Rattle.place.specs.Place.{partOf}
+use Rattle.place.proofs.Place.read_bytes.Statement.{statement}
+use Rattle.place.proofs.Place.read_bytes.Tie as tie
+
+returns : tie.Need-returns
+returns c = let b = c .before .before in let r = b .before .before .before in rw (c .read-bytes .ensures, b .byte-pos .ensures, c .before .whole-bytes .ensures) (bytes-given _ _ (passed (b .before .enum-told .given .1) (r .reach .ensures)))
+
+returns-2 : tie.Need-returns-2
+returns-2 c = let r = c .before .before .before in sym (ap partOf (read-refused _ _ _ (sym (r .reach .ensures) ∙ ap paper (c .before .enum-told2 .given .1))))
+
+pub read-bytes-spec : {M : Type 1} → statement M
+read-bytes-spec =
+    tie.close
+    (tie.spec
+    (λ c κs. search needs)
+    (λ c. search needs)
+    (λ c κs. search needs)
+    (λ c κs. search needs)
+    (λ c κs. search needs)
+    (λ c. search needs)
+    (λ c. search needs)
+    returns
+    returns-2)
