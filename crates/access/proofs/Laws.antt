@@ -13,7 +13,7 @@ use Rattle.answer.specs.declared.Group.{Group}
 use Rattle.answer.specs.declared.Refusal.{Refusal}
 use Rattle.answer.specs.declared.Verdict.{Verdict}
 use Rattle.answer.specs.Paper.{Answer, gives, refused, Check, accepted, paperOf, refuse, _andThen_}
-use Rattle.answer.proofs.Laws.{andThen-assoc, stand, both, not-refused, given, not-given}
+use Rattle.answer.proofs.Laws.{andThen-assoc, stand, both, not-refused, given}
 use Rattle.answer.proofs.OneToOne.{paperOf-one, paper-one}
 use Rattle.bits.specs.declared.BitPos.{BitPos}
 use Rattle.bits.specs.Positions.{globalOf}

@@ -1,38 +1,31 @@
 -- The places of an accepted sheet: reading and writing there is reading and writing the field. Step 3 leaves each field in the header, with the shape of
 -- what it holds; so each test at the place is the field's. Assumes nothing.
-use mathlib.Core.Path.{_≡_, refl, sym, ap, _∙_}
-use mathlib.Core.Bool.{Bool, true, false, not, _&&_, Bool·beq}
+use mathlib.Core.Path.{_≡_, refl, ap}
+use mathlib.Core.Bool.{Bool, true, false, not, _&&_}
 use mathlib.Core.List.{List}
-use Prim.Native.Nat.{ℕ, _+_, _*_, _/_, _%_, _≤_, _<_}
+use Prim.Native.Nat.{ℕ, _+_, _*_, _%_, _≤_, _<_}
 use native.Mathlib.Nat.{le-of-lt}
 use native.Mathlib.Omega.{arith}
-use lib.Dec.{leb, ltb, eqb}
-use lib.ListN.{length, take, drop}
+use lib.Dec.{ltb, eqb}
+use lib.ListN.{length}
 use borrow.Author.Tests.{le-leb, lt-leb, ltb-true, lt-ltb, eq-eqb}
-use Rattle.answer.specs.declared.Group.{Group}
-use Rattle.answer.specs.Paper.{Check, gives, refuse, _andThen_}
-use Rattle.bits.specs.Bits.{value, touched}
-use Rattle.bits.specs.Writes.{put}
+use Rattle.bits.specs.Bits.{touched}
 use Rattle.sheet.specs.Blocks.{blockAt, fieldCount}
-use Rattle.types.specs.declared.BuiltinTypes.{BuiltinTypes}
 use Rattle.types.specs.Types.{isSlice}
-use Rattle.types.proofs.Laws.{same-type}
 use Rattle.field.specs.declared.DefaultVal.{DefaultVal}
 use Rattle.field.specs.declared.Field.{Field}
 use Rattle.field.specs.Sound.{Sound, widthOf}
 use Rattle.fields.specs.Step.{fieldAt}
 use Rattle.fields.proofs.Laws.{field-sound}
 use Rattle.layout.specs.Layout.{HeaderField, GoodField, field, bits, start, width}
-use Rattle.layout.specs.Access.{Value, number, bytes, ofBytes, says, fits, reach, suit, valueAt, read, write, writeCheck, after, apply}
-use Rattle.header.specs.Places.{defaultNumber, headerField, layoutOf, startAt, bitsOf}
+use Rattle.layout.specs.Access.{Value, number, ofBytes, says, reach, suit, valueAt, read, write, writeCheck, apply}
+use Rattle.header.specs.Places.{defaultNumber, headerField, layoutOf, startAt}
 use Rattle.header.specs.Step.{headerBytes}
 use Rattle.header.proofs.Places.{layout-length, layout-field, layout-bits, layout-start, field-inside}
 use Rattle.header.proofs.Laid.{laid, good-field}
 use Rattle.definition.specs.Definition.{Accepted}
 use Rattle.definition.proofs.Laws.{Passed, passed-all}
-use Rattle.place.specs.declared.Place.{Place}
-use Rattle.place.specs.declared.Held.{Held}
-use Rattle.place.specs.Place.{headerIn, firstBit, bitsIn, isBytes, hasShape, isPlace, fixedOff, reachAt, suitAt, writeCheckAt, valueHere, readAt, applyAt}
+use Rattle.place.specs.Place.{isBytes, hasShape, isPlace, fixedOff, reachAt, suitAt, writeCheckAt, valueHere, readAt, applyAt}
 use Rattle.place.proofs.Laws.{same-test}
 use Rattle.access.specs.Access.{numberOf, heldOf, placeOf}
 

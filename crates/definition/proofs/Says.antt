@@ -10,14 +10,19 @@ use lib.Dec.{ltb}
 use borrow.Author.Tests.{lt-ltb, le-ltb}
 use Rattle.bits.specs.declared.BitPos.{BitPos}
 use Rattle.bits.specs.Positions.{globalOf}
+use Rattle.bits.proofs.Positions.{position-one}
 use Rattle.sheet.specs.Blocks.{fieldCount}
 use Rattle.sheet.proofs.Accepted.{accepted-is}
 use Rattle.field.specs.declared.Field.{Field}
 use Rattle.fields.specs.Step.{fieldAt}
 use Rattle.header.specs.declared.FieldStart.{FieldStart}
 use Rattle.header.specs.Places.{startAt, startOf, startIn}
+use Rattle.expr.proofs.Laws.{length-one}
+use Rattle.definition.specs.declared.PlacedField.{PlacedField}
+use Rattle.definition.specs.declared.LengthSlot.{LengthSlot}
+use Rattle.definition.specs.declared.EntryAt.{EntryAt}
 use Rattle.definition.specs.Definition.{Accepted}
-use Rattle.definition.specs.Says.{placedField}
+use Rattle.definition.specs.Says.{placedField, SlotSays, placedIn, entryIn}
 use Rattle.definition.proofs.Laws.{passed-all}
 
 -- ---- a field is where its start is
@@ -54,3 +59,28 @@ module _ (s : List ℕ) (i : ℕ) where
       neither : (a : Bool) → _≡_ {A = Option (Field × ℕ)} (cond (a && false) (some (fieldAt s i, startAt s i)) none) none
       neither true = refl
       neither false = refl
+
+-- ---- one answer
+
+pub placed-one : (q r : PlacedField) → placedIn q ≡ placedIn r → q ≡ r
+placed-one (PlacedField.At f p) (PlacedField.At g q) e =
+    let same : _≡_ {A = Field × ℕ} (f, globalOf p) (g, globalOf q) = cc in
+    let same-field : f ≡ g = ap (λ (x : Field × ℕ). x .0) same in
+    let same-start : p ≡ q = position-one p q (ap (λ (x : Field × ℕ). x .1) same) in
+    cc
+placed-one (PlacedField.At f p) PlacedField.None e = cc
+placed-one PlacedField.None (PlacedField.At g q) e = cc
+placed-one PlacedField.None PlacedField.None e = refl
+
+pub slot-one : {s : List ℕ} {slot : ℕ} (q r : LengthSlot) → SlotSays s slot q → SlotSays s slot r → q ≡ r
+slot-one q r x y =
+    let same-held : q .held ≡ r .held = x .held ∙ sym (y .held) in
+    let same-place : q .at ≡ r .at = x .place ∙ sym (y .place) in
+    let same-most : q .largest ≡ r .largest = length-one (q .largest) (r .largest) (x .most ∙ sym (y .most)) in
+    rw (same-held, same-place, same-most)
+
+pub entry-one : (q r : EntryAt) → entryIn q ≡ entryIn r → q ≡ r
+entry-one (EntryAt.At c) (EntryAt.At d) e = cc
+entry-one (EntryAt.At c) EntryAt.None e = cc
+entry-one EntryAt.None (EntryAt.At d) e = cc
+entry-one EntryAt.None EntryAt.None e = refl

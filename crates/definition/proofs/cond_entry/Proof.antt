@@ -1,7 +1,5 @@
 -- `cond_entry` meets its contract: there is an entry, and its name is a field's. Assumes nothing.
 use mathlib.Core.Path.{_≡_, sym, ap, _∙_}
-use mathlib.Core.Option.{Option}
-use Prim.Native.Nat.{ℕ}
 use borrow.Author.Needs.{needs}
 use Rattle.blocks.specs.Layout.{nameOf}
 use Rattle.header.specs.Names.{indexOf}

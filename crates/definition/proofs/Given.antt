@@ -1,0 +1,111 @@
+-- What an accepted sheet says has an answer at every index: each slot with an expression has its largest length, each condition its field, and each of its
+-- ranges a first and a last number. Assumes nothing.
+use mathlib.Core.Path.{_≡_, refl, sym, ap, _∙_}
+use mathlib.Core.Bool.{true, true≢false}
+use mathlib.Core.List.{List}
+use mathlib.Core.Option.{Option, none, some}
+use Prim.Native.Nat.{ℕ, _+_, _^_, _≤_, _<_}
+use native.Mathlib.Decide.{decLt, ℕ-discrete}
+use native.Mathlib.Omega.{arith}
+use lib.Pow.{pow-mono}
+use borrow.Author.Tests.{lt-ltb, le-leb, eq-eqb}
+use Rattle.number.specs.Numbers.{maxBytes, maxValue}
+use Rattle.number.proofs.Laws.{no-max-zero, no-max-wide, max-is}
+use Rattle.sheet.specs.Blocks.{blockCount, blockAt, fieldCount, lengthCount, condCount}
+use Rattle.sheet.specs.Accepted as sheet
+use Rattle.sheet.proofs.Accepted.{accepted-is}
+use Rattle.field.specs.declared.Field.{Field}
+use Rattle.field.specs.Sound.{widthOf}
+use Rattle.fields.specs.Step.{fieldAt}
+use Rattle.header.specs.Step.{headerBytes}
+use Rattle.expr.specs.declared.UsableAlgExpr.{UsableAlgExpr}
+use Rattle.slots.specs.declared.LengthField.{LengthField}
+use Rattle.slots.specs.Slots.{exprIn, held, heldBy, lengthField, placeOf, blockOfSlot}
+use Rattle.length.specs.Step.{largest, usedBy, worked, largestLength}
+use Rattle.length.proofs.Lengths.{lengths-are}
+use Rattle.bounds.specs.declared.CondBounds.{CondBounds}
+use Rattle.bounds.specs.Bounds.{inside, firstLast}
+use Rattle.bounds.proofs.Laws.{clipped-inside, first-last-none}
+use Rattle.cond.specs.Ranges.{rangeCount, rangeIn, orAll, largestOf, clippedIn}
+use Rattle.cond.specs.Step.{isEntry, rangeNumbers}
+use Rattle.cond.specs.Conditions.{Entry}
+use Rattle.cond.proofs.Conditions.{conditions-are}
+use Rattle.definition.specs.declared.CondEntry.{CondEntry}
+use Rattle.definition.specs.Definition.{Accepted}
+use Rattle.definition.specs.Says.{entryBlock, condEntry, condRange, onField, inBlock}
+use Rattle.definition.proofs.Laws.{passed-all}
+
+module _ (s : List ℕ) (ok : Accepted s) where
+  -- ---- slots
+
+  pub slot-given : (slot : ℕ) (e : UsableAlgExpr) → slot < 3 → lengthField s slot ≡ LengthField.Expr e → (most : ℕ) × (largestLength s slot ≡ some most) × (most ≤ maxBytes)
+  slot-given slot e h = by-block (blockOfSlot s slot) refl
+    where
+      of-expr : (x : Option UsableAlgExpr) → held x ≡ LengthField.Expr e → x ≡ some e
+      of-expr (some y) q = cc
+      of-expr none q = cc
+
+      by-block : (b : Option ℕ) → blockOfSlot s slot ≡ b → heldBy s b ≡ LengthField.Expr e → (most : ℕ) × (worked largest (usedBy s (placeOf b) (heldBy s b)) ≡ some most) × (most ≤ maxBytes)
+      by-block (some at) is q =
+          let found = lengths-are s (headerBytes s) .0 (passed-all s ok .length) .used slot at h is e (of-expr (exprIn (blockAt s at)) q) in
+          let serves = found .2 in
+          (serves .most, rw (q, found .1) (serves .most-is), serves .most-allowed)
+      by-block none is q = absurd (let z : _≡_ {A = ℕ} 0 1 = cc in omega arith)
+
+  -- ---- conditions
+
+  whole : sheet.Accepted s
+  whole = accepted-is s .0 (passed-all s ok .sheet)
+
+  module _ (k : ℕ) (h : k < condCount s) where
+    abbrev block : ℕ
+    block = fieldCount s + lengthCount s + k
+
+    at-block : entryBlock s k ≡ some block
+    unfolding entryBlock
+    at-block = rw (lt-ltb k (condCount s) h)
+
+    there : block < blockCount s
+    there = omega (arith, whole .no-others)
+
+    is-entry : isEntry (blockAt s block) ≡ true
+    is-entry = eq-eqb _ 67 (whole .c-last block (omega arith) there)
+
+    entry : Entry s block
+    entry = conditions-are s .0 (passed-all s ok .conds) .entries block there is-entry
+
+    pub entry-given : (c : CondEntry) × (condEntry s k ≡ some c)
+    entry-given = (
+      record { block = block; field = entry .field; ranges = rangeCount (blockAt s block) },
+      ap (inBlock s) at-block ∙ ap (onField s block) (entry .named),
+    )
+
+    -- a value of a field has at most 64 bits
+    largest-fits : (f : Field) → largestOf f < 2 ^ 64
+    largest-fits f = by-width (decLt 64 (widthOf f)) (ℕ-discrete (widthOf f) 0)
+      where
+        by-width : Dec (64 < widthOf f) → Dec (widthOf f ≡ 0) → orAll (maxValue (widthOf f)) < 2 ^ 64
+        by-width (yes l) d = rw (no-max-wide (widthOf f) l) (omega arith)
+        by-width (no l) (yes z) = rw (no-max-zero (widthOf f) z) (omega arith)
+        by-width (no l) (no z) = rw (max-is (widthOf f) z (omega arith)) (omega (arith, pow-mono {i = widthOf f} {j = 64} (omega arith)))
+
+    pub range-given : (j : ℕ) → j < rangeCount (blockAt s block) → (p : ℕ × ℕ) × (condRange s k j ≡ some p)
+    unfolding rangeNumbers
+    range-given j l = rw (at-block, is-entry, lt-ltb j (rangeCount (blockAt s block)) l, entry .named) (by-numbers (firstLast clip) refl)
+      where
+        clip : CondBounds
+        clip = clippedIn (blockAt s block) (largestOf (fieldAt s (entry .field))) j
+
+        -- a value of the field lies in the range
+        lying : (n : ℕ) × (inside clip n ≡ true) × (n < 2 ^ 64)
+        lying =
+            let one = entry .held j l in
+            let most = largestOf (fieldAt s (entry .field)) in (
+              one .0,
+              rw (clipped-inside (rangeIn (blockAt s block) j) most (one .0), one .1 .0, le-leb (one .0) most (one .1 .1)),
+              omega (arith, one .1 .1, largest-fits (fieldAt s (entry .field))),
+            )
+
+        by-numbers : (x : Option (ℕ × ℕ)) → firstLast clip ≡ x → (p : ℕ × ℕ) × (firstLast clip ≡ some p)
+        by-numbers (some p) e = (p, e)
+        by-numbers none e = absurd (true≢false (sym (lying .1) ∙ first-last-none clip e (lying .0) (lying .2)))
