@@ -9,6 +9,7 @@ use native.Mathlib.Omega.{arith}
 use lib.Dec.{ltb, eqb}
 use lib.ListN.{length}
 use borrow.Author.Tests.{le-leb, lt-leb, ltb-true, lt-ltb, eq-eqb}
+use Rattle.answer.proofs.Tests.{same-test}
 use Rattle.bits.specs.Bits.{touched}
 use Rattle.sheet.specs.Blocks.{blockAt, fieldCount}
 use Rattle.types.specs.Types.{isSlice}
@@ -26,7 +27,6 @@ use Rattle.header.proofs.Laid.{laid, good-field}
 use Rattle.definition.specs.Definition.{Accepted}
 use Rattle.definition.proofs.Laws.{Passed, passed-all}
 use Rattle.place.specs.Place.{isBytes, hasShape, isPlace, fixedOff, reachAt, suitAt, writeCheckAt, valueHere, readAt, applyAt}
-use Rattle.place.proofs.Laws.{same-test}
 use Rattle.access.specs.Access.{numberOf, heldOf, placeOf}
 
 -- ---- what a field holds

@@ -4,15 +4,15 @@ use mathlib.Core.Path.{_≡_, refl, sym, ap, _∙_, subst}
 use mathlib.Core.Bool.{Bool, true, false, cond, not}
 use mathlib.Core.List.{List, []}
 use Prim.Native.Nat.{ℕ, _+_, _-_, _*_, _/_, _%_, _^_, _≤_, _<_}
-use native.Mathlib.Nat.{mul-div-mul-right, mod-lt, mod-eq-of-lt, mod-one, lt-of-lt-of-le, add-mul, div-one, div-eq-of-lt}
+use native.Mathlib.Nat.{mul-div-mul-right, mod-lt, mod-eq-of-lt, mod-one, add-mul, div-one, div-eq-of-lt}
 use native.Mathlib.Decide.{decLt, ℕ-discrete}
 use native.Mathlib.Omega.{arith}
 use lib.Arith.{digits-lt}
-use lib.Dec.{ltb, eqb}
+use lib.Dec.{ltb}
 use lib.ListN.{length, take, drop, set, length-set}
-use lib.Pow.{field, pow-pos, pow-mono, pow-add, split, shr-shr, shr-lt, shl-exact, high, low}
+use lib.Pow.{field, pow-pos, pow-add, split, shr-shr, shr-lt, shl-exact, high, low}
 use lib.Seq.{getD-set-same, getD-set-other}
-use borrow.Author.Tests.{leb-true, not-true, not-false, lt-ltb, le-ltb, le-leb, lt-leb, eq-eqb, ne-eqb}
+use borrow.Author.Tests.{leb-true, not-true, not-false, lt-ltb, le-ltb, le-leb, lt-leb}
 use Rattle.octets.specs.Octets.{AreBytes, byte, be}
 use Rattle.bits.specs.declared.Fit.{Fit}
 use Rattle.bits.specs.declared.NumberWrite.{NumberWrite}
@@ -229,22 +229,6 @@ module _ (n s w : ℕ) where
       go (yes l) d = absurd (let q = fit-wide l in let z : _≡_ {A = ℕ} 0 1 = cc in omega arith)
       go (no l) (yes m) = absurd (let q = fit-outside (omega arith) m in let z : _≡_ {A = ℕ} 0 1 = cc in omega arith)
       go (no l) (no m) = (omega arith, omega arith)
-
--- ---- whether a number has at most w bits
-
-pub bits-within : (x w : ℕ) → eqb (x / 2 ^ w) 0 ≡ ltb x (2 ^ w)
-bits-within x w = go (decLt x (2 ^ w))
-  where
-    below : x / 2 ^ w ≡ 0 → x < 2 ^ w
-    below e = omega (arith, split x w, ap (λ (q : ℕ). q * 2 ^ w) e, mod-lt x (pow-pos w))
-
-    go : Dec (x < 2 ^ w) → eqb (x / 2 ^ w) 0 ≡ ltb x (2 ^ w)
-    go (yes l) = eq-eqb (x / 2 ^ w) 0 (div-eq-of-lt l) ∙ sym (lt-ltb x (2 ^ w) l)
-    go (no l) = ne-eqb (x / 2 ^ w) 0 (λ e. l (below e)) ∙ sym (le-ltb x (2 ^ w) (omega arith))
-
--- from 64 bits on that holds of any number of 64 bits
-pub wide-within : (x w : ℕ) → x < 2 ^ 64 → 64 ≤ w → true ≡ ltb x (2 ^ w)
-wide-within x w h l = sym (lt-ltb x (2 ^ w) (lt-of-lt-of-le h (pow-mono l)))
 
 -- ---- whole bytes in a buffer
 

@@ -6,7 +6,6 @@ use number::Bits;
 use number::Bytes;
 ghost use mathlib.Core.Path.{_≡_};
 ghost use Prim.Native.Nat.{_+_, _-_, _*_, _/_, _%_, _^_, _≤_, _<_};
-ghost use lib.Dec.{ltb};
 ghost use lib.ListN.{length};
 ghost use Rattle.octets.specs.Octets.{AreBytes};
 ghost use Rattle.bits.specs.Bits.{spelled, touched as touchedBy};
@@ -180,14 +179,6 @@ fn zero_out(buf: &mut [u8], from: usize, count: usize)
     }
 }
 
-// Whether a number has no more bits than these.
-pub fn has_bits(x: u64, width: Bits) -> bool
-    ensures { λ r. ⌜ r ≡ ltb x (2 ^ width .0) ⌝ }
-{
-    let w = width.0;
-    if w < 64 { x >> w == 0 } else { true }
-}
-
 // The number that the bits of a run spell.
 pub fn read_number(buf: &[u8], start: BitPos, width: Bits) -> NumberRead
     ensures { λ r. ⌜ r ≡ readNumber (now (buf .entry)) (globalOf start) (width .0) ⌝ }
@@ -207,7 +198,7 @@ fn write_fitting(buf: &mut [u8], start: BitPos, width: Bits, v: u64) -> NumberWr
     requires { ⌜ fitOf (length (now buf)) (globalOf start) (width .0) ≡ Fit.Fits ⌝ }
     ensures { λ r. ⌜ NumberWritten (now (buf .entry)) (now (buf .exit)) (globalOf start) (width .0) v r ⌝ }
 {
-    if !has_bits(v, width) {
+    if !width.holds(v) {
         return NumberWrite::TooLarge;
     }
     let from = start.byte_pos().0 as usize;

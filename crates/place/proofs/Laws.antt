@@ -14,7 +14,7 @@ use Rattle.answer.specs.declared.Refusal.{Refusal}
 use Rattle.answer.specs.declared.Verdict.{Verdict}
 use Rattle.answer.specs.Paper.{gives, refused, Check, accepted, paper, refuse, _andThen_}
 use Rattle.answer.proofs.Laws.{both-is, refuse-is, andThen-accepted}
-use Rattle.answer.proofs.Tests.{clash, both-hold, and-is, leb-is, leb-is-not, not-is}
+use Rattle.answer.proofs.Tests.{clash, same-test, both-hold, and-is, leb-is, leb-is-not, not-is}
 use Rattle.answer.proofs.OneToOne.{paperOf-one, paper-one}
 use Rattle.bits.specs.declared.NumberRead.{NumberRead}
 use Rattle.bits.specs.declared.NumberWrite.{NumberWrite}
@@ -32,12 +32,6 @@ use Rattle.place.specs.declared.NumberAnswer.{NumberAnswer}
 use Rattle.place.specs.Place.{headerIn, firstBit, bitsIn, isBytes, hasShape, isPlace, fixedOff, reachAt, suitAt, writeCheckAt, readAt, applyAt, WrittenAt, numberIn, partOf}
 
 -- ---- counts of bits held against counts of bytes
-
--- tests that hold together are the same
-pub same-test : (a b : Bool) → (a ≡ true → b ≡ true) → (b ≡ true → a ≡ true) → a ≡ b
-same-test true b there back = sym (there refl)
-same-test false true there back = back refl
-same-test false false there back = refl
 
 -- a run ends in so many bytes where the last that it touches does
 pub inside-is : (s w n : ℕ) → leb (s / 8 + touched s w) n ≡ leb (s + w) (8 * n)

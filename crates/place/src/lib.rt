@@ -115,7 +115,7 @@ impl Place {
     {
         let width = self.width;
         let held = self.held;
-        let large = self.refuse(!bits::has_bits(v, width), AccessFault::ValueNotTheWidth);
+        let large = self.refuse(!width.holds(v), AccessFault::ValueNotTheWidth);
         let fixed = self.refuse(held.fixed_off(v), AccessFault::FixedToItsDefault);
         large.and_then(fixed)
     }
@@ -139,10 +139,12 @@ impl Place {
         if let Verdict::Refused(reason) = v {
             return NumberAnswer::Refused(reason);
         }
+        let none = Refusal::Access(AccessFault::NoSuchField, self.index);
         match bits::read_number(buf, start, width) {
             NumberRead::Number(x) => NumberAnswer::Is(x),
-            NumberRead::TooWide => NumberAnswer::Is(0), // never, at a place
-            NumberRead::Outside => NumberAnswer::Is(0),
+            // a place that was reached is neither
+            NumberRead::TooWide => NumberAnswer::Refused(none),
+            NumberRead::Outside => NumberAnswer::Refused(none),
         }
     }
 

@@ -23,13 +23,13 @@ returns c =
     let k = c .before .before .before in
     let a = k .args in
     record {
-      answer = sym (write-large (length (a .buf .now)) (globalOf (a .start)) (a .width .0) (a .v) (k .pre) (sym (c .before .has-bits .ensures) ∙ not-true _ (c .if1 .taken)));
+      answer = sym (write-large (length (a .buf .now)) (globalOf (a .start)) (a .width .0) (a .v) (k .pre) (sym (c .before .holds .ensures) ∙ not-true _ (c .if1 .taken)));
       bytes = refl;
     }
 
 -- the number has at most the run's bits
 small : (c : tie.Else1) → ltb (c .before .before .before .args .v) (2 ^ c .before .before .before .args .width .0) ≡ true
-small c = sym (c .before .has-bits .ensures) ∙ not-false _ (c .if1 .left)
+small c = sym (c .before .holds .ensures) ∙ not-false _ (c .if1 .left)
 
 paste-requires : tie.Need-paste-requires
 paste-requires c κs =
