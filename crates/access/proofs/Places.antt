@@ -19,14 +19,14 @@ use Rattle.field.specs.Sound.{Sound, widthOf}
 use Rattle.fields.specs.Step.{fieldAt}
 use Rattle.fields.proofs.Laws.{field-sound}
 use Rattle.layout.specs.Layout.{HeaderField, GoodField, field, bits, start, width}
-use Rattle.layout.specs.Access.{Value, number, ofBytes, says, reach, suit, valueAt, read, write, writeCheck, apply}
+use Rattle.layout.specs.Access.{Value, number, ofBytes, says, reach, suit, read, write, writeCheck, apply}
 use Rattle.header.specs.Places.{defaultNumber, headerField, layoutOf, startAt}
 use Rattle.header.specs.Step.{headerBytes}
 use Rattle.header.proofs.Places.{layout-length, layout-field, layout-bits, layout-start, field-inside}
 use Rattle.header.proofs.Laid.{laid, good-field}
 use Rattle.definition.specs.Definition.{Accepted}
 use Rattle.definition.proofs.Laws.{Passed, passed-all}
-use Rattle.place.specs.Place.{isBytes, hasShape, isPlace, fixedOff, reachAt, suitAt, writeCheckAt, valueHere, readAt, applyAt}
+use Rattle.place.specs.Place.{isBytes, hasShape, isPlace, defaultIn, fixedIn, fieldThere, reachAt, writeCheckAt, readAt, applyAt}
 use Rattle.access.specs.Access.{numberOf, heldOf, placeOf}
 
 -- ---- what a field holds
@@ -49,7 +49,7 @@ number-default b f sound no-slice = by-kind (f .default) refl
     by-kind (DefaultVal.Bytes span) e = let is : isSlice (f .repr) ≡ true = ap isSlice (sound .bytes-field span e) in cc
 
 held-fixed : (slice : Bool) (f : Field) (d : ℕ) (v : Value) → (slice ≡ false → numberOf (f .default) ≡ d) → (slice ≡ true → f .fixed ≡ false)
-    → fixedOff (heldOf slice f) v ≡ (f .fixed && not (eqb (says v) d))
+    → (fixedIn (heldOf slice f) && not (eqb (says v) (defaultIn (heldOf slice f)))) ≡ (f .fixed && not (eqb (says v) d))
 held-fixed true f d v default free = rw (free refl)
 held-fixed false f d v default free = rw (default refl)
 
@@ -101,17 +101,13 @@ module _ (s : List ℕ) (ok : Accepted s) (i : ℕ) (h : i < fieldCount s) where
   )
 
   -- what is read
-  value-same : (b : List ℕ) (asBytes : Bool) → valueHere (placeOf s i) b asBytes ≡ valueAt (layoutOf s) b asBytes i
-  value-same b true = rw (start-is, width-is)
-  value-same b false = rw (start-is, width-is)
-
   pub read-same : (b : List ℕ) (asBytes : Bool) → readAt (placeOf s i) b asBytes ≡ read (layoutOf s) b asBytes i
   unfolding readAt read
-  read-same b asBytes = rw (reach-same (length b) asBytes, value-same b asBytes)
+  read-same b asBytes = rw (reach-same (length b) asBytes, start-is, width-is)
 
   -- access 4 and 5
-  suit-same : (v : Value) → suitAt (placeOf s i) v ≡ suit (field (layoutOf s) i) v i
-  unfolding suitAt suit
+  suit-same : (v : Value) → suit (fieldThere (placeOf s i)) v i ≡ suit (field (layoutOf s) i) v i
+  unfolding suit
   suit-same v =
       let f = fieldAt s i in
       rw (

@@ -24,12 +24,12 @@ use Rattle.bits.specs.Writes.{put}
 use Rattle.bits.specs.Runs.{readNumber, NumberWritten, bytesAt, BytesWritten}
 use Rattle.bits.proofs.Windows.{fit-fits}
 use Rattle.bits.proofs.Laws.{number-put, bytes-put}
-use Rattle.layout.specs.Access.{Value, number, bytes, ofBytes, says, Fits}
+use Rattle.layout.specs.Access.{Value, number, bytes, ofBytes, says, Fits, suit}
 use Rattle.layout.proofs.Access.{kind-is, fits-is}
 use Rattle.place.specs.declared.Held.{Held}
 use Rattle.place.specs.declared.Place.{Place}
 use Rattle.place.specs.declared.NumberAnswer.{NumberAnswer}
-use Rattle.place.specs.Place.{headerIn, firstBit, bitsIn, isBytes, hasShape, isPlace, fixedOff, reachAt, suitAt, writeCheckAt, readAt, applyAt, WrittenAt, numberIn, partOf}
+use Rattle.place.specs.Place.{headerIn, firstBit, bitsIn, isBytes, hasShape, isPlace, defaultIn, fixedIn, reachAt, writeCheckAt, readAt, applyAt, WrittenAt, numberIn, partOf}
 
 -- ---- counts of bits held against counts of bytes
 
@@ -70,9 +70,9 @@ bytes-whole (Held.Number default fixed) s w shape kind = clash kind
 bytes-whole Held.Bytes s w shape kind =
     let two = both-hold (eqb (s % 8) 0) (eqb (w % 8) 0) shape in (eqb-true (s % 8) 0 (two .0), eqb-true (w % 8) 0 (two .1))
 
-never-fixed : (h : Held) (v : Value) → true ≡ isBytes h → fixedOff h v ≡ false
-never-fixed (Held.Number default fixed) v kind = clash kind
-never-fixed Held.Bytes v kind = refl
+never-fixed : (h : Held) → true ≡ isBytes h → fixedIn h ≡ false
+never-fixed (Held.Number default fixed) kind = clash kind
+never-fixed Held.Bytes kind = refl
 
 -- ---- reads
 
@@ -106,14 +106,14 @@ module _ (p : Place) (b : List ℕ) where
 
 -- bytes are never fixed, so that access 4 is the last to be asked of them
 pub bytes-judged : (p : Place) (n : ℕ) (l : List ℕ) → (reachAt p n true andThen refuse (not (eqb (8 * length l) (bitsIn p))) Group.Access 4 (p .index)) ≡ writeCheckAt p n (bytes l)
-unfolding writeCheckAt suitAt
+unfolding writeCheckAt suit
 bytes-judged p n l = by-answer (reachAt p n true) refl
   where
     counted : Check
     counted = refuse (not (eqb (8 * length l) (bitsIn p))) Group.Access 4 (p .index)
 
-    by-answer : (x : Check) → reachAt p n true ≡ x → (x andThen counted) ≡ (x andThen counted andThen refuse (fixedOff (p .held) (bytes l)) Group.Access 5 (p .index))
-    by-answer (gives _) e = rw (never-fixed (p .held) (bytes l) (reached-is p n true .0 e .kind)) (sym (andThen-accepted counted))
+    by-answer : (x : Check) → reachAt p n true ≡ x → (x andThen counted) ≡ (x andThen counted andThen refuse (fixedIn (p .held) && not (eqb (spelled l) (defaultIn (p .held)))) Group.Access 5 (p .index))
+    by-answer (gives _) e = rw (never-fixed (p .held) (reached-is p n true .0 e .kind)) (sym (andThen-accepted counted))
     by-answer (refused g k at) e = refl
 
 module _ (p : Place) (b : List ℕ) (v : Value) where
@@ -129,7 +129,7 @@ module _ (p : Place) (b : List ℕ) (v : Value) where
 
 -- past access 1 to 5 the value has the size of the run
 fits-there : (p : Place) (n : ℕ) (v : Value) → writeCheckAt p n v ≡ accepted → Reached p n (ofBytes v) × Fits v (bitsIn p)
-unfolding writeCheckAt suitAt
+unfolding writeCheckAt suit
 fits-there p n v = simp (both-is, refuse-is, reached-is, not-is, fits-is) (λ q. (q .0, q .1 .0))
 
 module _ (p : Place) (b : List ℕ) {c : List ℕ} where

@@ -3,16 +3,16 @@
 use mathlib.Core.Path.{_≡_}
 use mathlib.Core.Bool.{Bool, true, false, not, _&&_, Bool·beq}
 use mathlib.Core.List.{List, []}
-use Prim.Native.Nat.{ℕ, _+_, _*_, _/_, _%_}
+use Prim.Native.Nat.{ℕ, _+_, _*_, _%_}
 use lib.Dec.{leb, ltb, eqb}
-use lib.ListN.{length, take, drop}
-use Rattle.answer.specs.declared.Group.{Group}
+use lib.ListN.{length}
 use Rattle.answer.specs.declared.Verdict.{Verdict}
-use Rattle.answer.specs.Paper.{Answer, gives, refused, Check, paperOf, paper, refuse, _andThen_}
-use Rattle.bits.specs.Bits.{value, touched}
+use Rattle.answer.specs.Paper.{Answer, gives, refused, Check, paperOf, paper, _andThen_}
+use Rattle.bits.specs.Bits.{touched}
 use Rattle.bits.specs.Positions.{globalOf}
 use Rattle.bits.specs.Writes.{put}
-use Rattle.layout.specs.Access.{Value, number, bytes, ofBytes, says, fits, after}
+use Rattle.layout.specs.Layout.{HeaderField}
+use Rattle.layout.specs.Access.{Value, number, bytes, ofBytes, says, reachBy, suit, runValue, after}
 use Rattle.place.specs.declared.Held.{Held}
 use Rattle.place.specs.declared.Place.{Place}
 use Rattle.place.specs.declared.NumberAnswer.{NumberAnswer}
@@ -41,37 +41,32 @@ hasShape Held.Bytes s w = eqb (s % 8) 0 && eqb (w % 8) 0
 unfoldable pub isPlace : Place → Bool
 isPlace p = leb (firstBit p + bitsIn p) (8 * headerIn p) && hasShape (p .held) (firstBit p) (bitsIn p)
 
--- fixed, to another value than this
-abbrev pub fixedOff : Held → Value → Bool
-fixedOff (Held.Number default fixed) v = fixed && not (eqb (says v) default)
-fixedOff Held.Bytes v = false
+-- the field there, as a header has it; bytes are never fixed, and so their default is not asked for
+abbrev pub defaultIn : Held → ℕ
+defaultIn (Held.Number default fixed) = default
+defaultIn Held.Bytes = 0
+
+abbrev pub fixedIn : Held → Bool
+fixedIn (Held.Number default fixed) = fixed
+fixedIn Held.Bytes = false
+
+abbrev pub fieldThere : Place → HeaderField
+fieldThere p = record { width = bitsIn p; isBytes = isBytes (p .held); default = defaultIn (p .held); fixed = fixedIn (p .held) }
 
 -- ---- access 1 to 5 at a place, in a buffer of n bytes; the place of a refusal is the field's index
 
--- 1: no field can stand there; 2: the buffer is shorter than the header; 3: a number asked of bytes, or the reverse
+-- access 1 is that no field can stand there; 2 and 3 are as ever
 unfoldable pub reachAt : Place → ℕ → Bool → Check
-reachAt p n asBytes =
-    refuse (not (isPlace p)) Group.Access 1 (p .index)
-    andThen refuse (ltb n (headerIn p)) Group.Access 2 (p .index)
-    andThen refuse (not (Bool·beq asBytes (isBytes (p .held)))) Group.Access 3 (p .index)
+reachAt p n asBytes = reachBy (not (isPlace p)) (ltb n (headerIn p)) (not (Bool·beq asBytes (isBytes (p .held)))) (p .index)
 
--- 4: the value is over the width, or the byte count is not the field's; 5: the field is fixed, and the value is not its default
-unfoldable pub suitAt : Place → Value → Check
-suitAt p v =
-    refuse (not (fits v (bitsIn p))) Group.Access 4 (p .index)
-    andThen refuse (fixedOff (p .held) v) Group.Access 5 (p .index)
-
+-- and so are 4 and 5
 unfoldable pub writeCheckAt : Place → ℕ → Value → Check
-writeCheckAt p n v = reachAt p n (ofBytes v) andThen suitAt p v
+writeCheckAt p n v = reachAt p n (ofBytes v) andThen suit (fieldThere p) v (p .index)
 
 -- ---- what is read, and the buffer after a write
 
-abbrev pub valueHere : Place → List ℕ → Bool → Value
-valueHere p b true = bytes (take (bitsIn p / 8) (drop (firstBit p / 8) b))
-valueHere p b false = number (value b (firstBit p) (bitsIn p))
-
 unfoldable pub readAt : Place → List ℕ → Bool → Answer Value
-readAt p b asBytes = reachAt p (length b) asBytes andThen gives (valueHere p b asBytes)
+readAt p b asBytes = reachAt p (length b) asBytes andThen gives (runValue b asBytes (firstBit p) (bitsIn p))
 
 unfoldable pub applyAt : Place → List ℕ → Value → List ℕ
 applyAt p b v = after (writeCheckAt p (length b) v) (put b (firstBit p) (bitsIn p) (says v)) b

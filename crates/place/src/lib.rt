@@ -8,15 +8,15 @@ use bits::NumberRead;
 use number::Bits;
 use number::Bytes;
 ghost use mathlib.Core.Path.{_≡_};
-ghost use mathlib.Core.Bool.{true, false};
+ghost use mathlib.Core.Bool.{true, false, not, _&&_};
 ghost use lib.Dec.{eqb};
 ghost use lib.ListN.{length};
 ghost use Prim.Native.Nat.{_*_};
 ghost use Rattle.answer.specs.declared.Group.{Group};
 ghost use Rattle.answer.specs.Paper.{accessNumber, paper, refuse as refusedIf};
 ghost use Rattle.bits.specs.Positions.{globalOf};
-ghost use Rattle.layout.specs.Access.{number as aNumber, bytes as someBytes};
-ghost use Rattle.place.specs.Place.{isBytes, hasShape, isPlace, fixedOff, reachAt, suitAt, writeCheckAt, readAt, WrittenAt, numberIn, partOf};
+ghost use Rattle.layout.specs.Access.{number as aNumber, bytes as someBytes, suit as suitOf};
+ghost use Rattle.place.specs.Place.{isBytes, hasShape, isPlace, defaultIn, fixedIn, fieldThere, reachAt, writeCheckAt, readAt, WrittenAt, numberIn, partOf};
 
 // What a field holds: a number, with its default and whether it is fixed to that; or bytes.
 pub enum Held {
@@ -61,7 +61,7 @@ impl Held {
 
     // Whether it is fixed, to another number than this.
     fn fixed_off(self, v: u64) -> bool
-        ensures { λ r. ⌜ r ≡ fixedOff self (aNumber v) ⌝ }
+        ensures { λ r. ⌜ r ≡ (fixedIn self && not (eqb v (defaultIn self))) ⌝ }
     {
         match self {
             Held::Number(default, fixed) => fixed & (v != default),
@@ -111,7 +111,7 @@ impl Place {
 
     // Access 4 and 5 of a number.
     fn suit(self, v: u64) -> Verdict
-        ensures { λ r. ⌜ paper r ≡ suitAt self (aNumber v) ⌝ }
+        ensures { λ r. ⌜ paper r ≡ suitOf (fieldThere self) (aNumber v) (self .index) ⌝ }
     {
         let width = self.width;
         let held = self.held;
