@@ -13,7 +13,7 @@ use Rattle.answer.specs.declared.Group.{Group}
 use Rattle.answer.specs.declared.Refusal.{Refusal}
 use Rattle.answer.specs.declared.Verdict.{Verdict}
 use Rattle.answer.specs.Paper.{Answer, gives, refused, Check, accepted, paperOf, refuse, _andThen_}
-use Rattle.answer.proofs.Laws.{andThen-assoc, stand, both, not-refused, given}
+use Rattle.answer.proofs.Laws.{andThen-assoc, stand, both, not-refused, given, not-given}
 use Rattle.answer.proofs.OneToOne.{paperOf-one, paper-one}
 use Rattle.bits.specs.declared.BitPos.{BitPos}
 use Rattle.bits.specs.Positions.{globalOf}
@@ -63,6 +63,14 @@ module _ (s : List ℕ) (i : ℕ) (ok : Accepted s) {n : PlacedField} (said : pl
           rw (ok, lt-leb (fieldCount s) i h, held-is, same-field, ← same-start)
       by-count (no h) = let e = sym (ap placedIn is) ∙ said ∙ no-field s i (omega arith) in cc
 
+-- what the program was told of a place: it is that of a field, or the refusal
+module _ (s : List ℕ) (i : ℕ) {q : PlaceAnswer} (e : placeAnswer q ≡ placeIn s i) where
+  pub place-given : {p : Place} → q ≡ PlaceAnswer.Is p → placeIn s i ≡ gives p
+  place-given is = sym e ∙ ap placeAnswer is
+
+  pub place-refused : {r : Refusal} → q ≡ PlaceAnswer.Refused r → placeCheck s i ≡ paperOf r
+  place-refused is = not-given (placeCheck s i) (placeOf s i) (sym e ∙ ap placeAnswer is)
+
 module _ (s : List ℕ) (i : ℕ) where
   -- ---- what comes after the refusal of the sheet, and after access 1
 
@@ -86,9 +94,9 @@ module _ (s : List ℕ) (i : ℕ) where
 
   -- ---- no place: the refusal stands
 
-  pub place-refused : {g : Group} {k at : ℕ} → definitionCheck s ≡ refused g k at → placeIn s i ≡ refused g k at
+  pub sheet-refused : {g : Group} {k at : ℕ} → definitionCheck s ≡ refused g k at → placeIn s i ≡ refused g k at
   unfolding placeCheck
-  place-refused e = rw e
+  sheet-refused e = rw e
 
   module _ {g : Group} {k at : ℕ} (e : placeCheck s i ≡ refused g k at) where
     pub reach-refused : (n : ℕ) (asBytes : Bool) → sheetReach s n asBytes i ≡ refused g k at

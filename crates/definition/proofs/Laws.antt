@@ -50,6 +50,14 @@ module _ (s : List ℕ) where
         let got = given (headerCheck s) (sym e' ∙ ap headerAnswer is) in
         rest ∙ sym (two-passed ∙ ap (λ (x : Check). x andThen restOf (headerOf s)) (got .0) ∙ ap restOf (got .1))
 
+  -- ---- what the program was told of a header: it is that of an accepted sheet, or the refusal
+  module _ {n : NewHeader} (e : headerAnswer n ≡ definedHeader s) where
+    pub header-given : {h : Header} → n ≡ NewHeader.Is h → Accepted s × (headerOf s ≡ h)
+    header-given is = given (definitionCheck s) (sym e ∙ ap headerAnswer is)
+
+    pub header-refused : {r : Refusal} → n ≡ NewHeader.Refused r → definitionCheck s ≡ paperOf r
+    header-refused is = not-given (definitionCheck s) (headerOf s) (sym e ∙ ap headerAnswer is)
+
 -- ---- an accepted sheet passed each step
 
 pub record Passed (s : List ℕ) : Type 0 where

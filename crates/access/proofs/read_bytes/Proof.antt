@@ -1,18 +1,18 @@
 -- `read_bytes` meets its contract: the bytes are read at the field's place. Assumes nothing.
 use mathlib.Core.Path.{sym, ap, _∙_}
 use borrow.Author.Needs.{needs}
-use Rattle.answer.proofs.Laws.{not-given}
-use Rattle.access.proofs.Laws.{read-refused, read-there}
-use Rattle.access.specs.Access.{placeOf, placeCheck, placeAnswer}
+use Rattle.access.proofs.Laws.{place-given, place-refused, read-refused, read-there}
 use Rattle.access.proofs.read_bytes.Statement.{statement}
 use Rattle.access.proofs.read_bytes.Tie as tie
 use Rattle.place.specs.Place.{partOf}
 
 returns : tie.Need-returns
-returns c = let p = c .before .before in c .read-bytes .ensures ∙ ap partOf (read-there _ _ (sym (p .before .before .place .ensures) ∙ ap placeAnswer (p .p .given .1)) _ _)
+returns c =
+    let p = c .before .before in
+    c .read-bytes .ensures ∙ ap partOf (read-there _ _ (place-given _ _ (p .before .before .place .ensures) (p .p .given .1)) _ _)
 
 returns-2 : tie.Need-returns-2
-returns-2 c = sym (ap partOf (read-refused _ _ (not-given (placeCheck _ _) (placeOf _ _) (sym (c .before .before .before .place .ensures) ∙ ap placeAnswer (c .before .enum-told .given .1))) _ _))
+returns-2 c = sym (ap partOf (read-refused _ _ (place-refused _ _ (c .before .before .before .place .ensures) (c .before .enum-told .given .1)) _ _))
 
 pub read-bytes-spec : {M : Type 1} → statement M
 read-bytes-spec =

@@ -1,17 +1,16 @@
 -- `write_number` meets its contract: the number goes to the field's place. Assumes nothing.
-use mathlib.Core.Path.{sym, ap, _∙_}
 use borrow.Author.Needs.{needs}
-use Rattle.answer.proofs.Laws.{not-given}
-use Rattle.access.proofs.Laws.{not-written, written-there}
-use Rattle.access.specs.Access.{placeOf, placeCheck, placeAnswer}
+use Rattle.access.proofs.Laws.{place-given, place-refused, not-written, written-there}
 use Rattle.access.proofs.write_number.Statement.{statement}
 use Rattle.access.proofs.write_number.Tie as tie
 
 returns : tie.Need-returns
-returns c = let p = c .before .before .before .before .before in written-there _ _ (sym (p .before .before .place .ensures) ∙ ap placeAnswer (p .p .given .1)) (c .before .before .write-number .ensures)
+returns c =
+    let p = c .before .before .before .before .before in
+    written-there _ _ (place-given _ _ (p .before .before .place .ensures) (p .p .given .1)) (c .before .before .write-number .ensures)
 
 returns-2 : tie.Need-returns-2
-returns-2 c = not-written _ _ _ _ _ (not-given (placeCheck _ _) (placeOf _ _) (sym (c .before .before .before .place .ensures) ∙ ap placeAnswer (c .before .reason .given .1)))
+returns-2 c = not-written _ _ _ _ _ (place-refused _ _ (c .before .before .before .place .ensures) (c .before .reason .given .1))
 
 pub write-number-spec : {M : Type 1} → statement M
 write-number-spec =

@@ -9,7 +9,8 @@ use Rattle.definition.proofs.cond_entry.Statement.{statement}
 use Rattle.definition.proofs.cond_entry.Tie as tie
 
 -- what the name of the entry's block means
-found : (c : tie.After-field-named) → condEntry (c .before .before .before .before .before .before .before .before .args .s .now) (c .before .before .before .before .before .before .before .before .args .k)
+found : (c : tie.After-field-named)
+    → condEntry (c .before .before .before .before .before .before .before .before .args .s .now) (c .before .before .before .before .before .before .before .before .args .k)
     ≡ onField (c .before .before .before .before .before .before .before .before .args .s .now) (c .before .before .before .before .block .given .0 .0) (indexOf (c .field-named .result))
 found c =
     let s = c .before .before .before .before .before .before .before .before .args .s .now in
@@ -21,7 +22,9 @@ returns : tie.Need-returns
 returns c = rw (← (c .before .before .entry-block .ensures), c .enum-told .given .1)
 
 returns-2 : tie.Need-returns-2
-returns-2 c = let n = c .before .before .before .before in rw (found n, c .before .before .field .given .1, ← (n .before .before .block2 .ensures), ← (c .byte-at .ensures))
+returns-2 c =
+    let n = c .before .before .before .before in
+    rw (found n, c .before .before .field .given .1, ← (n .before .before .block2 .ensures), ← (c .byte-at .ensures))
 
 returns-3 : tie.Need-returns-3
 returns-3 c = rw (found (c .before .before), c .enum-told2 .given .1)

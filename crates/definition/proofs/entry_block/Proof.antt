@@ -10,7 +10,8 @@ use Rattle.definition.proofs.entry_block.Statement.{statement}
 use Rattle.definition.proofs.entry_block.Tie as tie
 
 -- there are at most as many of each kind as blocks
-few : (c : tie.After-block-counts) → (c .block-counts .result .fields ≤ blockCount (c .before .before .args .s .now)) × (c .block-counts .result .lengths ≤ blockCount (c .before .before .args .s .now)) × (c .block-counts .result .conds ≤ blockCount (c .before .before .args .s .now))
+few : (c : tie.After-block-counts) → (c .block-counts .result .fields ≤ blockCount (c .before .before .args .s .now))
+    × (c .block-counts .result .lengths ≤ blockCount (c .before .before .args .s .now)) × (c .block-counts .result .conds ≤ blockCount (c .before .before .args .s .now))
 few c = counts-le _ _ (c .block-counts .ensures)
 
 add-t5 : tie.Need-add-t5
@@ -21,7 +22,9 @@ add-t6 c = omega (arith, few (c .before .before .before))
 
 returns : tie.Need-returns
 unfolding entryBlock
-returns c = let k = c .before .before .before in rw (k .block-counts .ensures, lt-ltb _ _ (rw (k .block-counts .ensures) at (c .before .if1 .taken)))
+returns c =
+    let k = c .before .before .before in
+    rw (k .block-counts .ensures, lt-ltb _ _ (rw (k .block-counts .ensures) at (c .before .if1 .taken)))
 
 returns-2 : tie.Need-returns-2
 unfolding entryBlock

@@ -8,10 +8,14 @@ returns : tie.Need-returns
 returns c = refused-early _ (c .before .v .given .1) (c .before .before .before .check-fields .ensures)
 
 returns-2 : tie.Need-returns-2
-returns-2 c = let made = c .before .before .before in refused-third _ (made .before .enum-told .given .1) (made .before .before .before .check-fields .ensures) (c .before .reason .given .1) (made .new .ensures)
+returns-2 c =
+    let made = c .before .before .before in
+    refused-third _ (made .before .enum-told .given .1) (made .before .before .before .check-fields .ensures) (c .before .reason .given .1) (made .new .ensures)
 
 returns-3 : tie.Need-returns-3
-returns-3 c = let made = c .before .before .before .before in third-passed _ (made .before .enum-told .given .1) (made .before .before .before .check-fields .ensures) (c .before .before .h .given .1) (made .new .ensures) (c .check-rest .ensures)
+returns-3 c =
+    let made = c .before .before .before .before in
+    third-passed _ (made .before .enum-told .given .1) (made .before .before .before .check-fields .ensures) (c .before .before .h .given .1) (made .new .ensures) (c .check-rest .ensures)
 
 pub header-spec : {M : Type 1} → statement M
 header-spec =

@@ -6,7 +6,9 @@ use Rattle.place.proofs.Place.suit.Tie as tie
 
 returns : tie.Need-returns
 unfolding suit
-returns c = let f = c .before .before in rw (c .and-then .ensures, c .before .refuse2 .ensures, f .fixed-off .ensures, f .before .refuse .ensures, f .before .before .holds .ensures)
+returns c =
+    let f = c .before .before in
+    rw (c .and-then .ensures, c .before .refuse2 .ensures, f .fixed-off .ensures, f .before .refuse .ensures, f .before .before .holds .ensures)
 
 pub suit-spec : {M : Type 1} → statement M
 suit-spec =

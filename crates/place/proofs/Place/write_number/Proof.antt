@@ -20,7 +20,10 @@ returns : tie.Need-returns
 returns c = not-written _ _ _ (c .enum-told .given .1) (judged (c .before .before))
 
 returns-2 : tie.Need-returns-2
-returns-2 c = let w = c .before .before in let told = w .before .before in number-written _ _ _ (passed (told .enum-told2 .given .1) (judged (told .before .before))) (w .write-number .ensures)
+returns-2 c =
+    let w = c .before .before in
+    let told = w .before .before in
+    number-written _ _ _ (passed (told .enum-told2 .given .1) (judged (told .before .before))) (w .write-number .ensures)
 
 pub write-number-spec : {M : Type 1} → statement M
 write-number-spec =
