@@ -59,6 +59,16 @@ held-fixed false f d v default free = rw (default refl)
 shorter-is : (n h : ℕ) → ltb n h ≡ ltb (8 * n) (8 * h)
 shorter-is n h = same-test (ltb n h) (ltb (8 * n) (8 * h)) (λ e. lt-ltb (8 * n) (8 * h) (omega (arith, ltb-true n h e))) (λ e. lt-ltb n h (omega (arith, ltb-true (8 * n) (8 * h) e)))
 
+-- the header's bits, and a field's, as the layout has them
+pub bits-are : (s : List ℕ) → Accepted s → bits (layoutOf s) ≡ 8 * headerBytes s
+bits-are s ok = omega (arith, layout-bits s, laid s (passed-all s ok .header) .whole)
+
+pub start-is : (s : List ℕ) (i : ℕ) → i < fieldCount s → start (layoutOf s) i ≡ startAt s i
+start-is s i h = layout-start s i (le-of-lt h)
+
+pub width-is : (s : List ℕ) (i : ℕ) → i < fieldCount s → width (layoutOf s) i ≡ widthOf (fieldAt s i)
+width-is s i h = ap (λ (f : HeaderField). f .width) (layout-field s i h)
+
 module _ (s : List ℕ) (ok : Accepted s) (i : ℕ) (h : i < fieldCount s) where
   steps : Passed s
   steps = passed-all s ok
@@ -74,19 +84,6 @@ module _ (s : List ℕ) (ok : Accepted s) (i : ℕ) (h : i < fieldCount s) where
     held-shape (isSlice ((fieldAt s i) .repr)) (fieldAt s i) (startAt s i) (widthOf (fieldAt s i)) (stands .number) (stands .boundary) (stands .whole-bytes),
   )
 
-  -- where the layout has it
-  start-is : start (layoutOf s) i ≡ startAt s i
-  start-is = layout-start s i (le-of-lt h)
-
-  field-is : field (layoutOf s) i ≡ headerField s i
-  field-is = layout-field s i h
-
-  width-is : width (layoutOf s) i ≡ widthOf (fieldAt s i)
-  width-is = ap (λ (f : HeaderField). f .width) field-is
-
-  bits-are : bits (layoutOf s) ≡ 8 * headerBytes s
-  bits-are = omega (arith, layout-bits s, laid s (steps .header) .whole)
-
   -- access 1 to 3
   pub reach-same : (n : ℕ) (asBytes : Bool) → reachAt (placeOf s i) n asBytes ≡ reach (layoutOf s) n asBytes i
   unfolding reachAt reach
@@ -96,14 +93,14 @@ module _ (s : List ℕ) (ok : Accepted s) (i : ℕ) (h : i < fieldCount s) where
     lt-leb (fieldCount s) i h,
     shorter-is n (headerBytes s),
     held-bytes (isSlice ((fieldAt s i) .repr)) (fieldAt s i),
-    field-is,
-    bits-are,
+    layout-field s i h,
+    bits-are s ok,
   )
 
   -- what is read
   pub read-same : (b : List ℕ) (asBytes : Bool) → readAt (placeOf s i) b asBytes ≡ read (layoutOf s) b asBytes i
   unfolding readAt read
-  read-same b asBytes = rw (reach-same (length b) asBytes, start-is, width-is)
+  read-same b asBytes = rw (reach-same (length b) asBytes, start-is s i h, width-is s i h)
 
   -- access 4 and 5
   suit-same : (v : Value) → suit (fieldThere (placeOf s i)) v i ≡ suit (field (layoutOf s) i) v i
@@ -111,7 +108,7 @@ module _ (s : List ℕ) (ok : Accepted s) (i : ℕ) (h : i < fieldCount s) where
   suit-same v =
       let f = fieldAt s i in
       rw (
-        field-is,
+        layout-field s i h,
         held-fixed (isSlice (f .repr)) f (defaultNumber (blockAt s i) (f .default)) v (number-default (blockAt s i) f (field-sound s (steps .fields) i h)) (stands .free),
       )
 
@@ -122,4 +119,4 @@ module _ (s : List ℕ) (ok : Accepted s) (i : ℕ) (h : i < fieldCount s) where
 
   pub apply-same : (b : List ℕ) (v : Value) → applyAt (placeOf s i) b v ≡ apply (layoutOf s) b (write i v)
   unfolding applyAt apply
-  apply-same b v = rw (write-check-same (length b) v, start-is, width-is)
+  apply-same b v = rw (write-check-same (length b) v, start-is s i h, width-is s i h)

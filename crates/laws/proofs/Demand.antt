@@ -28,10 +28,11 @@ use Rattle.definition.specs.Definition.{Accepted}
 use Rattle.definition.proofs.Laws.{passed-all}
 use Rattle.template.specs.Template.{templateCheck, TemplateBuilt}
 use Rattle.access.specs.Access.{sheetRead, sheetWriteCheck, sheetApply}
+use Rattle.access.proofs.Places.{bits-are, start-is, width-is}
 use Rattle.access.proofs.Laws.{read-is, write-check-is, apply-is}
 use Rattle.laws.specs.Fields.{widthAt, defaultAt, fixedAt, OfField, holds, Allowed, Readable}
 use Rattle.laws.specs.Demand.{Demand, Passes, Started}
-use Rattle.laws.proofs.Fields.{bits-are, start-is, width-is, holds-is, of-field-is, readable-is, allowed-is}
+use Rattle.laws.proofs.Fields.{holds-is, of-field-is, readable-is, allowed-is}
 
 module _ (s : List ℕ) (ok : Accepted s) where
   owed : layout.Demand (layoutOf s)
@@ -95,12 +96,12 @@ module _ (s : List ℕ) (ok : Accepted s) where
   number-back b i v e j l =
       let w = write i (number v) in
       let h = there b w e in
-      rw (apply-is s ok b w, ← (start-is s ok i h), ← (width-is s ok i h)) (owed .number-back b i v (passes-is b w e) j (rw (width-is s ok i h) l))
+      rw (apply-is s ok b w, ← (start-is s i h), ← (width-is s i h)) (owed .number-back b i v (passes-is b w e) j (rw (width-is s i h) l))
 
   bytes-back : (b : List ℕ) (i : ℕ) (l : List ℕ) → Passes s b (write i (bytes l)) → (j : ℕ) → j < 8 * length l → bit (sheetApply s b (write i (bytes l))) (startAt s i + j) ≡ bit l j
   bytes-back b i l e j h =
       let w = write i (bytes l) in
-      rw (apply-is s ok b w, ← (start-is s ok i (there b w e))) (owed .bytes-back b i l (passes-is b w e) j h)
+      rw (apply-is s ok b w, ← (start-is s i (there b w e))) (owed .bytes-back b i l (passes-is b w e) j h)
 
   accepted-writes : (b : List ℕ) (w : Write) → Passes s b w ↔ Allowed s (length b) w
   accepted-writes b w = (

@@ -3,53 +3,40 @@ use mathlib.Core.Path.{_≡_, sym, ap, _∙_}
 use mathlib.Core.Bool.{Bool}
 use mathlib.Core.List.{List}
 use mathlib.Core.Logic.{_↔_}
-use Prim.Native.Nat.{ℕ, _*_, _<_}
-use native.Mathlib.Nat.{le-of-lt}
+use Prim.Native.Nat.{ℕ, _<_}
 use native.Mathlib.Omega.{arith}
 use Rattle.sheet.specs.Blocks.{fieldCount}
-use Rattle.layout.specs.Layout.{HeaderField, In, bits, start, width, content}
+use Rattle.layout.specs.Layout.{HeaderField, In, content}
 use Rattle.layout.specs.Access as access
 use Rattle.layout.specs.Access.{ofBytes, Write}
-use Rattle.header.specs.Places.{layoutOf, startAt}
-use Rattle.header.specs.Step.{headerBytes}
-use Rattle.header.proofs.Places.{layout-length, layout-field, layout-bits, layout-start}
-use Rattle.header.proofs.Laid.{laid}
+use Rattle.header.specs.Places.{layoutOf}
+use Rattle.header.proofs.Places.{layout-length, layout-field}
 use Rattle.definition.specs.Definition.{Accepted}
-use Rattle.definition.proofs.Laws.{passed-all}
-use Rattle.laws.specs.Fields.{widthAt, OfField, holds, Allowed, Readable}
+use Rattle.access.proofs.Places.{bits-are, start-is, width-is}
+use Rattle.laws.specs.Fields.{OfField, holds, Allowed, Readable}
 
 module _ (s : List ℕ) (ok : Accepted s) where
-  pub bits-are : bits (layoutOf s) ≡ 8 * headerBytes s
-  bits-are = omega (arith, layout-bits s, laid s (passed-all s ok .header) .whole)
-
-  module _ (i : ℕ) (h : i < fieldCount s) where
-    pub start-is : start (layoutOf s) i ≡ startAt s i
-    start-is = layout-start s i (le-of-lt h)
-
-    pub width-is : width (layoutOf s) i ≡ widthAt s i
-    width-is = ap (λ (f : HeaderField). f .width) (layout-field s i h)
-
-    pub holds-is : (b : List ℕ) → content (layoutOf s) b i ≡ holds s b i
-    holds-is b = rw (start-is, width-is)
+  pub holds-is : (i : ℕ) → i < fieldCount s → (b : List ℕ) → content (layoutOf s) b i ≡ holds s b i
+  holds-is i h b = rw (start-is s i h, width-is s i h)
 
   pub of-field-is : (i k : ℕ) → In (layoutOf s) i k ↔ OfField s i k
   of-field-is i k = (
     λ p. let h : i < fieldCount s = rw (layout-length s) at (p .there) in
-        record { there = h; from = rw (start-is i h) at (p .from); to = rw (start-is i h, width-is i h) at (p .to) },
+        record { there = h; from = rw (start-is s i h) at (p .from); to = rw (start-is s i h, width-is s i h) at (p .to) },
     λ p. record {
       there = rw (layout-length s) (p .there);
-      from = rw (start-is i (p .there)) (p .from);
-      to = rw (start-is i (p .there), width-is i (p .there)) (p .to);
+      from = rw (start-is s i (p .there)) (p .from);
+      to = rw (start-is s i (p .there), width-is s i (p .there)) (p .to);
     },
   )
 
   pub readable-is : (n : ℕ) (asBytes : Bool) (i : ℕ) → access.Reachable (layoutOf s) n asBytes i ↔ Readable s n asBytes i
   readable-is n asBytes i = (
     λ r. let h : i < fieldCount s = rw (layout-length s) at (r .there) in
-        record { there = h; long = omega (arith, r .long, bits-are); kind = r .kind ∙ ap (λ (x : HeaderField). x .isBytes) (layout-field s i h) },
+        record { there = h; long = omega (arith, r .long, bits-are s ok); kind = r .kind ∙ ap (λ (x : HeaderField). x .isBytes) (layout-field s i h) },
     λ r. record {
       there = rw (layout-length s) (r .there);
-      long = omega (arith, r .long, bits-are);
+      long = omega (arith, r .long, bits-are s ok);
       kind = r .kind ∙ sym (ap (λ (x : HeaderField). x .isBytes) (layout-field s i (r .there)));
     },
   )
@@ -62,13 +49,13 @@ module _ (s : List ℕ) (ok : Accepted s) where
           there = r .there;
           long = r .long;
           kind = r .kind;
-          size = rw (width-is (w .index) (r .there)) at (a .size);
+          size = rw (width-is s (w .index) (r .there)) at (a .size);
           free = λ e. a .free (ap (λ (x : HeaderField). x .fixed) f ∙ e) ∙ ap (λ (x : HeaderField). x .default) f;
         },
     λ a. let f = layout-field s (w .index) (a .there) in
         record {
           reached = readable-is n (ofBytes (w .value)) (w .index) .1 (record { there = a .there; long = a .long; kind = a .kind });
-          size = rw (width-is (w .index) (a .there)) (a .size);
+          size = rw (width-is s (w .index) (a .there)) (a .size);
           free = λ e. a .free (sym (ap (λ (x : HeaderField). x .fixed) f) ∙ e) ∙ sym (ap (λ (x : HeaderField). x .default) f);
         },
   )

@@ -120,7 +120,7 @@ impl Place {
         large.and_then(fixed)
     }
 
-    // Access 1 to 4 of bytes, so many; bytes are never fixed.
+    // Access 1 to 4 of bytes; they are never fixed.
     fn judge_bytes(self, n: usize, bytes: &[u8]) -> Verdict
         ensures { λ r. ⌜ paper r ≡ writeCheckAt self n (someBytes (now (bytes .entry))) ⌝ }
     {
