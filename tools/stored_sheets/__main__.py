@@ -140,6 +140,10 @@ that goes over single bits.
 
 import sys
 from collections import Counter
+from pathlib import Path
+
+# The folder of the tools, for what they share.
+sys.path.append(str(Path(__file__).resolve().parent.parent))
 
 from access import carried_out, opened
 from accesses import access_record, all_accesses

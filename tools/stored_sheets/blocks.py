@@ -1,16 +1,11 @@
-"""Builders of blocks and sheets. They set what they are told, also wrongly."""
+"""Builders of sheets, and changes to blocks. They set what they are told, also wrongly."""
 
 import re
 import struct
 
-from rules import BLOCK, BOOL, BYTES, CODE, NUMBER, SLICE, U8, ones_complement_sum
-
-
-def sealed(block):
-    """A copy whose bytes 510 and 511 make the sum 65,535."""
-    body = bytes(block[:510])
-    word = 65_535 - ones_complement_sum(body + b"\0\0")
-    return body + struct.pack(">H", word)
+from sheet_blocks import (
+    BLOCK, BOOL, BYTES, CODE, NUMBER, SLICE, U8, condition, field, length,
+    ones_complement_sum, sealed, tree)
 
 
 def unsealed(block):
@@ -36,50 +31,6 @@ def patched(block, *changes):
         body[offset:offset + len(value)] = value
     assert len(body) == BLOCK
     return sealed(body)
-
-
-def head(letter, name, name_length):
-    """The first 66 bytes, which all kinds share."""
-    size = len(name) if name_length is None else name_length
-    return letter + bytes([size]) + name.ljust(64, b"\0")
-
-
-def field(name=b"f", bits=8, repr=0, arg=0, gen=0, kind=0, fixed=0, number=0,
-          data=b"", count=None, name_length=None):
-    """An F block. The byte count is that of `data` unless it is given."""
-    block = head(b"F", name, name_length)
-    block += struct.pack(">I6BQH", bits, repr, arg, gen, kind, fixed, 0, number,
-                         len(data) if count is None else count)
-    return sealed((block + data).ljust(510, b"\0"))
-
-
-def length(name=None, slot=0, form=1, first=0, second=0, nodes=(),
-           node_count=None, name_length=None):
-    """An L block. Nodes are (kind, left, right, number)."""
-    if name is None:
-        name = b"" if form == 0 else b"f"
-    block = head(b"L", name, name_length)
-    block += struct.pack(">BBQQ", slot, form, first, second)
-    if form == 6:
-        count = len(nodes) if node_count is None else node_count
-        block += struct.pack(">B3x", count)
-        for node in nodes:
-            block += struct.pack(">3BxQ", *node)
-    return sealed(block.ljust(510, b"\0"))
-
-
-def tree(*nodes, **other):
-    """An L block of form 6."""
-    return length(form=6, nodes=nodes, **other)
-
-
-def condition(name=b"f", ranges=(), range_count=None, name_length=None):
-    """A C block. Ranges are (start kind, end kind, start, end)."""
-    block = head(b"C", name, name_length)
-    block += struct.pack(">Bx", len(ranges) if range_count is None else range_count)
-    for span in ranges:
-        block += struct.pack(">BBQQ", *span)
-    return sealed(block.ljust(510, b"\0"))
 
 
 # One F block for each field refusal.

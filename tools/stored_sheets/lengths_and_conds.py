@@ -8,16 +8,11 @@ from collections import namedtuple
 from rules import (
     ACCEPTED, MOST_BYTES, MOST_NUMBER, SLICE, blocks_of, fields_of, header_length,
     name_of, number_at, resolved)
+from sheet_blocks import (
+    ADD, INCLUDED, MULTIPLY, NONE, PLAIN, PRODUCT, PRODUCT_PLUS, SUM, SUM_TIMES,
+    THE_FIELD, TREE, UNDEFINED, VALUE)
 
 LENGTH, COND = 4, 5
-
-# Forms of a length.
-UNDEFINED, PLAIN, SUM, PRODUCT, SUM_TIMES, PRODUCT_PLUS, TREE = range(7)
-# Kinds of nodes.
-VALUE, THE_FIELD, ADD, SUBTRACT, MULTIPLY, DIVIDE = range(6)
-# Kinds of the ends of a range. A start is of the first two.
-NONE, INCLUDED, EXCLUDED = range(3)
-
 MOST_ENTRIES = 8
 
 Formula = namedtuple("Formula", "form first second")

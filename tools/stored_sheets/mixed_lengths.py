@@ -45,7 +45,7 @@ def mixed_length(chance, slot, names):
     largest = 2 ** width - 1
     term = chance.one_of((0, 1, 4, 9, 20, 20, 100, max(MOST_BYTES - largest * factor, 0),
                           max(MOST_BYTES - largest * factor + 1, 0),
-                          max(MOST_NUMBER - largest * factor + 1, 0)))
+                          min(max(MOST_NUMBER - largest * factor + 1, 0), MOST_NUMBER)))
     form = chance.below(6)
     if form == 0:
         return length(slot=slot, form=0)

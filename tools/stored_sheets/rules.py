@@ -4,21 +4,18 @@ Stated once, in the order of docs/RULES.md. Steps 4 and 5 are stated in
 lengths_and_conds.py, and answers.py goes over all five.
 """
 
-import struct
 from collections import namedtuple
 
-BLOCK = 512
+from sheet_blocks import (
+    ABSENT, BLOCK, BOOL, BYTES, CODE, NUMBER, SLICE, TRUTH, U8, U16, U32, U64,
+    ones_complement_sum)
+
 MOST_BLOCKS = 99
 MOST_BITS = 33_554_424
 MOST_BYTES = 4_194_303
 MOST_NUMBER = 2 ** 64 - 1
 SHEET, FIELD, HEADER = 1, 2, 3
 ACCEPTED = (0, 0, 0)
-
-# Codes of repr and arg.
-ABSENT, U8, U16, U32, U64, SLICE, BOOL, CODE = range(8)
-# Default kinds.
-NUMBER, BYTES, TRUTH = 1, 2, 3
 
 
 def blocks_of(sheet):
@@ -40,15 +37,6 @@ def number_at(block, start, end):
 
 def zeros(block, start, end):
     return not any(block[start:end])
-
-
-def ones_complement_sum(block):
-    """The sum of the 256 big-endian words, each carry added at the low end."""
-    total = 0
-    for word in struct.unpack(">256H", block):
-        total += word
-        total = (total & 65_535) + (total >> 16)
-    return total
 
 
 def step_1(sheet):

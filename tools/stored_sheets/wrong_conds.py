@@ -4,8 +4,9 @@ At the end come those that steps 4 and 5 share.
 """
 
 import lengths_and_conds as right
-from lengths_and_conds import COND, EXCLUDED, INCLUDED, NONE
+from lengths_and_conds import COND
 from rules import ACCEPTED, MOST_NUMBER, blocks_of, fields_of, name_of, resolved
+from sheet_blocks import EXCLUDED, INCLUDED, NONE
 
 RIGHT = {name: getattr(right, name) for name in ("step_5", "entry_refusal", "clipped")}
 

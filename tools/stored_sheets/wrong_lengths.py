@@ -1,10 +1,11 @@
 """Wrong rules of step 4, each of which the cases of that step have to notice."""
 
 import lengths_and_conds as right
-from lengths_and_conds import (
-    ADD, DIVIDE, Formula, LENGTH, MULTIPLY, PLAIN, PRODUCT, PRODUCT_PLUS, SUBTRACT, SUM,
-    SUM_TIMES, THE_FIELD, TREE, UNDEFINED, VALUE)
+from lengths_and_conds import Formula, LENGTH
 from rules import ACCEPTED, MOST_NUMBER, SLICE, blocks_of, header_length, name_of
+from sheet_blocks import (
+    ADD, DIVIDE, MULTIPLY, PLAIN, PRODUCT, PRODUCT_PLUS, SUBTRACT, SUM, SUM_TIMES,
+    THE_FIELD, TREE, UNDEFINED, VALUE)
 
 RIGHT = {name: getattr(right, name) for name in (
     "forward", "slot_refusal", "tree_formula", "simple_formula", "step_4")}

@@ -1,11 +1,10 @@
 -- Sheets of bytes, built from short descriptions of their blocks, each with the check that its bytes ask for. Assumes nothing.
 use mathlib.Core.List.{List, [], _∷_, _++_}
 use Prim.Native.Nat.{ℕ, zero, suc, _-_, _/_, _%_}
-use Prim.Native.Char.{code}
 use Prim.Native.String.{String}
-use Prim.Native.String as text
 use lib.ListN.{length}
 use Rattle.octets.specs.Ones.{words, onesSum}
+use Rattle.text.specs.Text.{ascii}
 
 -- ---- descriptions: what a block states, in the codes of its layout
 
@@ -73,11 +72,6 @@ a toBelow e = record { startKind = 1; endKind = 2; start = a; end = e }
 abbrev numberBytes : ℕ → ℕ → List ℕ → List ℕ
 numberBytes zero n rest = rest
 numberBytes (suc k) n rest = numberBytes k (n / 256) (n % 256 ∷ rest)
-
--- the codes of a text's characters: of ASCII, its bytes
-abbrev ascii : String → List ℕ
-ascii text.[] = []
-ascii (text._∷_ c t) = code c ∷ ascii t
 
 -- a list and then zeros, so many bytes together, in front of the rest
 abbrev padded : ℕ → List ℕ → List ℕ → List ℕ

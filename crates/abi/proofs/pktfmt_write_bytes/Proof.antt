@@ -1,0 +1,22 @@
+-- `pktfmt_write_bytes` meets its contract: what the write at the place answers is told. Assumes nothing.
+use borrow.Author.Needs.{needs}
+use Rattle.abi.proofs.Laws.{write-told}
+use Rattle.abi.proofs.pktfmt_write_bytes.Statement.{statement}
+use Rattle.abi.proofs.pktfmt_write_bytes.Tie as tie
+
+returns : tie.Need-returns
+returns c =
+    let told = c .before .before in
+    let wrote = told .before .before .before .before in
+    write-told (wrote .before .before .place-from .ensures) (wrote .write-bytes .ensures) (told .tell-verdict .ensures)
+
+pub pktfmt-write-bytes-spec : {M : Type 1} → statement M
+pktfmt-write-bytes-spec =
+    tie.close
+    (tie.spec
+    (λ c κs. search needs)
+    (λ c κs. search needs)
+    (λ c κs. search needs)
+    (λ c. search needs)
+    (λ c. search needs)
+    returns)

@@ -1,0 +1,14 @@
+-- `put_slot` meets its contract: the slot's parts are what the definition names. Assumes nothing.
+use mathlib.Core.Path.{_≡_, ap, _∙_}
+use Rattle.listing.specs.Listing.{slotText}
+use borrow.Author.Needs.{needs}
+use Rattle.listing.proofs.put_slot.Statement.{statement}
+use Rattle.listing.proofs.put_slot.Tie as tie
+
+returns : tie.Need-returns
+returns c =
+    let says = c .before .before .before .before .before .before .length-slot .ensures in
+    rw (says .held, says .most, c .before .before .before .name .ensures, c .before .before .before .before .block .ensures, says .place) at (c .before .before .put-length .ensures)
+
+pub put-slot-spec : {M : Type 1} → statement M
+put-slot-spec = tie.close (tie.spec (λ c κs. search needs) (λ c κs. search needs) (λ c κs. search needs) (λ c κs. search needs) (λ c. search needs) returns)
