@@ -35,6 +35,15 @@ use Rattle.definition.specs.Definition.{Accepted}
 use Rattle.definition.specs.Says.{entryBlock, condEntry, condRange, onField, inBlock}
 use Rattle.definition.proofs.Laws.{passed-all}
 
+-- a value of a field has at most 64 bits
+pub largest-fits : (f : Field) → largestOf f < 2 ^ 64
+largest-fits f = by-width (decLt 64 (widthOf f)) (ℕ-discrete (widthOf f) 0)
+  where
+    by-width : Dec (64 < widthOf f) → Dec (widthOf f ≡ 0) → orAll (maxValue (widthOf f)) < 2 ^ 64
+    by-width (yes l) d = rw (no-max-wide (widthOf f) l) (omega arith)
+    by-width (no l) (yes z) = rw (no-max-zero (widthOf f) z) (omega arith)
+    by-width (no l) (no z) = rw (max-is (widthOf f) z (omega arith)) (omega (arith, pow-mono {i = widthOf f} {j = 64} (omega arith)))
+
 module _ (s : List ℕ) (ok : Accepted s) where
   -- ---- slots
 
@@ -79,15 +88,6 @@ module _ (s : List ℕ) (ok : Accepted s) where
       record { block = block; field = entry .field; ranges = rangeCount (blockAt s block) },
       ap (inBlock s) at-block ∙ ap (onField s block) (entry .named),
     )
-
-    -- a value of a field has at most 64 bits
-    largest-fits : (f : Field) → largestOf f < 2 ^ 64
-    largest-fits f = by-width (decLt 64 (widthOf f)) (ℕ-discrete (widthOf f) 0)
-      where
-        by-width : Dec (64 < widthOf f) → Dec (widthOf f ≡ 0) → orAll (maxValue (widthOf f)) < 2 ^ 64
-        by-width (yes l) d = rw (no-max-wide (widthOf f) l) (omega arith)
-        by-width (no l) (yes z) = rw (no-max-zero (widthOf f) z) (omega arith)
-        by-width (no l) (no z) = rw (max-is (widthOf f) z (omega arith)) (omega (arith, pow-mono {i = widthOf f} {j = 64} (omega arith)))
 
     pub range-given : (j : ℕ) → j < rangeCount (blockAt s block) → (p : ℕ × ℕ) × (condRange s k j ≡ some p)
     unfolding rangeNumbers

@@ -1,3 +1,4 @@
 pub mod Laws
 pub mod Says
 pub mod Given
+pub mod Within

@@ -3,14 +3,13 @@ use mathlib.Core.Path.{_≡_, refl, sym, ap, _∙_}
 use mathlib.Core.List.{List}
 use Prim.Native.Nat.{ℕ, zero, suc, _*_, _/_, _≤_}
 use native.Mathlib.Omega.{arith}
-use lib.Dec.{ltb}
 use lib.ListN.{length, drop, replicate}
 use lib.Seq.{slice, take-at}
 use borrow.Author.Tests.{ltb-false}
 use Rattle.answer.specs.declared.Group.{Group}
 use Rattle.answer.specs.declared.Refusal.{Refusal}
 use Rattle.answer.specs.declared.Verdict.{Verdict}
-use Rattle.answer.specs.Paper.{Check, gives, accepted, groupOf, numberOf, placeOf, paperOf, refuse, _andThen_}
+use Rattle.answer.specs.Paper.{gives, accepted, groupOf, numberOf, placeOf, paperOf, _andThen_}
 use Rattle.answer.proofs.Laws.{both, given, never-given, not-refused}
 use Rattle.octets.specs.Octets.{AreBytes}
 use Rattle.sheet.specs.declared.Counts.{Counts}
@@ -22,11 +21,12 @@ use Rattle.header.specs.declared.Header.{Header}
 use Rattle.header.specs.declared.NewHeader.{NewHeader}
 use Rattle.header.specs.Places.{layoutOf}
 use Rattle.header.specs.Step.{headerCheck, headerBytes, headerOf, newHeader, headerAnswer}
-use Rattle.header.proofs.Laid.{laid, good}
+use Rattle.header.proofs.Laid.{good}
 use Rattle.header.proofs.Places.{layout-length, layout-bits}
 use Rattle.definition.specs.Definition.{definitionCheck, Accepted}
-use Rattle.definition.proofs.Laws.{Passed, passed-all}
+use Rattle.definition.proofs.Laws.{passed-all}
 use Rattle.template.specs.Template.{templateCheck, TemplateBuilt}
+use Rattle.template.proofs.Steps.{whole-bytes}
 use Rattle.lines.specs.Lines.{refusalLine}
 use Rattle.listing.specs.Listing.{listing, textOf, printed}
 
@@ -61,32 +61,40 @@ module _ (s : List ℕ) where
   unfolding printed
   text-refused r e = ap (textOf s) e
 
-  -- ---- the template that was built
+  -- ---- the template
 
+  -- where it has room in n bytes, the sheet is accepted and the header has at most n
+  pub has-room : (n : ℕ) → templateCheck s n ≡ accepted → Accepted s × (headerBytes s ≤ n)
+  unfolding templateCheck
+  has-room n e =
+      let two = both (definitionCheck s) _ e in
+      (two .0, ltb-false n (headerBytes s) (not-refused _ Group.Room 1 (blockCount s) (two .1)))
+
+  module _ (ok : Accepted s) where
+    is-good : Good (layoutOf s)
+    is-good = let steps = passed-all s ok in good s (steps .fields) (steps .header)
+
+    size : bits (layoutOf s) ≡ 8 * headerBytes s
+    size = layout-bits s ∙ whole-bytes s ok
+
+    -- it is as long as the header
+    pub template-bytes : length (template (layoutOf s)) ≡ headerBytes s
+    template-bytes = omega (arith, size, template-size (layoutOf s) is-good)
+
+  -- the one that was built
   module _ {b b' : List ℕ} (bytes : AreBytes b) (built : TemplateBuilt s b b' Verdict.Accepted) where
-    checked : (definitionCheck s ≡ accepted) × (refuse (ltb (length b) (headerBytes s)) Group.Room 1 (blockCount s) ≡ accepted)
-    unfolding templateCheck
-    checked = both (definitionCheck s) _ (sym (built .answer))
+    checked : Accepted s × (headerBytes s ≤ length b)
+    checked = has-room (length b) (sym (built .answer))
 
     pub built-accepted : Accepted s
     built-accepted = checked .0
 
-    steps : Passed s
-    steps = passed-all s built-accepted
-
-    is-good : Good (layoutOf s)
-    is-good = good s (steps .fields) (steps .header)
-
-    size : bits (layoutOf s) ≡ 8 * headerBytes s
-    size = omega (arith, layout-bits s, laid s (steps .header) .whole)
-
-    room : bits (layoutOf s) ≤ 8 * length b
-    room = omega (arith, size, ltb-false (length b) (headerBytes s) (not-refused _ Group.Room 1 (blockCount s) (checked .1)))
-
     -- it is in front of the buffer
     pub built-front : slice 0 (headerBytes s) b' ≡ template (layoutOf s)
     built-front =
+        let fs = layoutOf s in
+        let ok-fields = is-good built-accepted in
+        let room : bits fs ≤ 8 * length b = omega (arith, size built-accepted, checked .1) in
         let filled = rw (← (layout-length s)) at (built .filled refl) in
-        let bytes-are = template-only (layoutOf s) is-good b b' room filled ∙ template-in (layoutOf s) is-good b bytes room in
-        let long : length (template (layoutOf s)) ≡ headerBytes s = omega (arith, size, template-size (layoutOf s) is-good) in
-        rw bytes-are (take-at (template (layoutOf s)) (drop (bits (layoutOf s) / 8) b) (headerBytes s) long)
+        let bytes-are = template-only fs ok-fields b b' room filled ∙ template-in fs ok-fields b bytes room in
+        rw bytes-are (take-at (template fs) (drop (bits fs / 8) b) (headerBytes s) (template-bytes built-accepted))
