@@ -2,7 +2,6 @@
 // is told there. Prints how many sheets gave the answer, and what a sheet that passed holds, that the file has for them, and how many did not.
 use answer::Group;
 use answer::Verdict;
-use bits::BytesWrite;
 use blocks::nodes::Node;
 use bounds::FirstLast;
 use definition::EntryAt;
@@ -16,11 +15,9 @@ use header::FieldIndex;
 use header::Header;
 use header::NewHeader;
 use libc::STDOUT_FILENO;
-use number::Bytes;
 use sheet::SlotBlock;
 use slots::LengthField;
 ghost use Prim.Native.Nat.{_≤_};
-ghost use lib.ListN.{length};
 ghost use Rattle.io.specs.Counts.{Counts};
 
 enum Turn {
@@ -49,33 +46,6 @@ fn small(x: u8) -> usize
     ensures { λ r. ⌜ r ≤ 255 ⌝ }
 {
     x as usize
-}
-
-// Lays out one run of a packed sheet, and says whether it fits.
-fn lay_out(out: &mut [u8], at: u64, run: &[u8]) -> bool {
-    match bits::write_bytes(out, Bytes(at), run) {
-        BytesWrite::Done => true,
-        BytesWrite::Outside => false,
-    }
-}
-
-// Unpacks a sheet into zeros, and says whether every run fits.
-fn unpack(packed: &[u8], out: &mut [u8]) -> bool
-    requires { ⌜ length (now packed) ≤ 65536 ⌝ }
-{
-    let mut from: usize = 0;
-    let mut to: u64 = 0;
-    while from < packed.len() {
-        let gap = wide(octets::be16(packed, from));
-        let n = small(octets::byte_at(packed, from + 2));
-        let run = octets::part(packed, from + 3, from + 3 + n);
-        if !lay_out(out, to + gap, run) {
-            return false;
-        }
-        from += 3 + n;
-        to += gap + n as u64;
-    }
-    true
 }
 
 // ---- what an accepted sheet holds, compared with the facts of its record as they stand there, byte after byte
@@ -587,7 +557,7 @@ fn replay_one(fd: i32, buf: &mut [u8]) -> Turn {
     let mut sheet = io::large_buffer();
     let p = fill(fd, &mut packed, octets::be16(&head, 0) as usize);
     let t = fill(fd, &mut expected, octets::be16(&head, 7) as usize);
-    let whole = unpack(&packed[..p], &mut sheet);
+    let whole = packed::unpack(&packed[..p], &mut sheet);
     let s = octets::part(&sheet, 0, octets::be16(&head, 2) as usize);
     if whole & is_expected(s, &head, &expected[..t], buf) {
         Turn::Right
