@@ -3,12 +3,12 @@
 use mathlib.Core.Path.{_≡_, refl, sym, ap, _∙_, subst}
 use mathlib.Core.Bool.{Bool, true, false, cond, not}
 use mathlib.Core.List.{List, []}
-use Prim.Native.Nat.{ℕ, _+_, _-_, _*_, _/_, _%_, _^_, _≤_, _<_}
+use Prim.Native.Nat.{ℕ, zero, suc, _+_, _-_, _*_, _/_, _%_, _^_, _≤_, _<_}
 use native.Mathlib.Nat.{mul-div-mul-right, mod-lt, mod-eq-of-lt, mod-one, add-mul, div-one, div-eq-of-lt}
 use native.Mathlib.Decide.{decLt, ℕ-discrete}
 use native.Mathlib.Omega.{arith}
 use lib.Arith.{digits-lt}
-use lib.Dec.{ltb}
+use lib.Dec.{ltb, lit<}
 use lib.ListN.{length, take, drop, set, length-set}
 use lib.Pow.{field, pow-pos, pow-add, split, shr-shr, shr-lt, shl-exact, high, low}
 use lib.Seq.{getD-set-same, getD-set-other}
@@ -140,19 +140,18 @@ put-wider b s w v t x l m =
     all : ℕ
     all = num (newBit b s w v) t x
 
--- so the bytes that the run touches, stored from the window, write it
-pub window-stored : (b : List ℕ) (s w v : ℕ) → s % 8 + w ≤ 64 → v < 2 ^ w
-    → put b (8 * (s / 8)) (8 * touched s w) (pasted (value b (8 * (s / 8)) 64) w (64 - (s % 8 + w)) v / 2 ^ (64 - 8 * touched s w)) ≡ put b s w v
-window-stored b s w v narrow small =
-    let n = 8 * touched s w in
-    let len : 64 ≡ n + (64 - n) = omega arith in
-    let first : pasted (value b (8 * (s / 8)) 64) w (64 - (s % 8 + w)) v / 2 ^ (64 - n) ≡ num (newBit b s w v) (8 * (s / 8)) n = (
-    ap (λ (x : ℕ). x / 2 ^ (64 - n)) (window-pasted b s w narrow v small ∙ ap (num (newBit b s w v) (8 * (s / 8))) len)
-    ∙ num-first (newBit b s w v) (new-lt b s w v) (8 * (s / 8)) n (64 - n)
+-- so the bytes that the run touches, or more of them, stored from the window, write it
+pub window-stored : (b : List ℕ) (s w v n : ℕ) → s % 8 + w ≤ 64 → v < 2 ^ w → touched s w ≤ n → n ≤ 8
+    → put b (8 * (s / 8)) (8 * n) (pasted (value b (8 * (s / 8)) 64) w (64 - (s % 8 + w)) v / 2 ^ (64 - 8 * n)) ≡ put b s w v
+window-stored b s w v n narrow small all most =
+    let len : 64 ≡ 8 * n + (64 - 8 * n) = omega arith in
+    let first : pasted (value b (8 * (s / 8)) 64) w (64 - (s % 8 + w)) v / 2 ^ (64 - 8 * n) ≡ num (newBit b s w v) (8 * (s / 8)) (8 * n) = (
+    ap (λ (x : ℕ). x / 2 ^ (64 - 8 * n)) (window-pasted b s w narrow v small ∙ ap (num (newBit b s w v) (8 * (s / 8))) len)
+    ∙ num-first (newBit b s w v) (new-lt b s w v) (8 * (s / 8)) (8 * n) (64 - 8 * n)
     ) in
-    ap (put b (8 * (s / 8)) n) first ∙ put-wider b s w v (8 * (s / 8)) n (omega arith) (omega arith)
+    ap (put b (8 * (s / 8)) (8 * n)) first ∙ put-wider b s w v (8 * (s / 8)) (8 * n) (omega arith) (omega arith)
 
--- the two as the program has them: f the first byte, k the bits of it before the run, x the number of the 8 bytes from there on, n the bytes touched
+-- the two as the program has them: f the first byte, k the bits of it before the run, x the number of the 8 bytes from there on, n the bytes stored
 module _ (b : List ℕ) (bytes : AreBytes b) (s w : ℕ) (narrow : s % 8 + w ≤ 64) {f k x : ℕ} (f-is : f ≡ s / 8) (k-is : k ≡ s % 8) (x-is : x ≡ be b f 8) where
   window : x ≡ value b (8 * (s / 8)) 64
   window = x-is ∙ ap (λ (i : ℕ). be b i 8) f-is ∙ sym (value-be b bytes (s / 8) 8)
@@ -160,8 +159,8 @@ module _ (b : List ℕ) (bytes : AreBytes b) (s w : ℕ) (narrow : s % 8 + w ≤
   pub window-read : {r : ℕ} → r ≡ x / 2 ^ (64 - (k + w)) % 2 ^ w → r ≡ value b s w
   window-read e = e ∙ rw (window, k-is) (window-cut b s w narrow)
 
-  pub window-written : (v : ℕ) → v < 2 ^ w → {n y : ℕ} {c : List ℕ} → n ≡ touched s w → y ≡ pasted x w (64 - (k + w)) v → c ≡ put b (8 * f) (8 * n) (y / 2 ^ (64 - 8 * n)) → c ≡ put b s w v
-  window-written v small n-is y-is e = e ∙ rw (y-is, n-is, window, k-is, f-is) (window-stored b s w v narrow small)
+  pub window-written : (v : ℕ) → v < 2 ^ w → {n y : ℕ} {c : List ℕ} → touched s w ≤ n → n ≤ 8 → y ≡ pasted x w (64 - (k + w)) v → c ≡ put b (8 * f) (8 * n) (y / 2 ^ (64 - 8 * n)) → c ≡ put b s w v
+  window-written v small {n} all most y-is e = e ∙ rw (y-is, window, k-is, f-is) (window-stored b s w v n narrow small all most)
 
 -- ---- bytes stored one after the other
 
@@ -205,6 +204,50 @@ next-byte x i h =
     let above : 64 - 8 * i ≡ (56 - 8 * i) + 8 = omega arith in
     let last : 64 - 8 * (i + 1) ≡ 56 - 8 * i = omega arith in
     rw (above, last, ← (shr-shr x (56 - 8 * i) 8)) (split (x / 2 ^ (56 - 8 * i)) 8)
+
+-- n bytes as a number, the lowest first, and each found where it stands
+lowest-first : (ℕ → ℕ) → ℕ → ℕ
+lowest-first f zero = 0
+lowest-first f (suc n) = f 0 + 256 * lowest-first (λ i. f (suc i)) n
+
+lowest-lt : (f : ℕ → ℕ) (n : ℕ) → ((j : ℕ) → f j < 256) → lowest-first f n < 2 ^ (8 * n)
+unfolding lowest-first
+lowest-lt f zero h = lit< tt
+lowest-lt f (suc n) h =
+    let more : 8 * suc n ≡ 8 + 8 * n = omega arith in
+    rw (more, pow-add 2 8 (8 * n)) (omega (arith, h 0, lowest-lt (λ j. f (suc j)) n (λ j. h (suc j))))
+
+lowest-at : (f : ℕ → ℕ) (n i : ℕ) → ((j : ℕ) → f j < 256) → i < n → lowest-first f n / 2 ^ (8 * i) % 256 ≡ f i
+unfolding lowest-first
+lowest-at f zero i h l = absurd (omega arith)
+lowest-at f (suc n) zero h l = omega (arith, h 0)
+lowest-at f (suc n) (suc i) h l =
+    let further : 8 * suc i ≡ 8 + 8 * i = omega arith in
+    let rest : (f 0 + 256 * lowest-first (λ j. f (suc j)) n) / 2 ^ 8 ≡ lowest-first (λ j. f (suc j)) n = omega (arith, h 0) in
+    rw (further, ← (shr-shr (f 0 + 256 * lowest-first (λ j. f (suc j)) n) 8 (8 * i)), rest) (lowest-at (λ j. f (suc j)) n i (λ j. h (suc j)) (omega arith))
+
+-- so the highest bytes of x put lowest are x with its bytes in the other order
+abbrev pub otherOrder : ℕ → ℕ
+otherOrder x =
+    x / 2 ^ 56 % 256 + 256 * (x / 2 ^ 48 % 256) + 65536 * (x / 2 ^ 40 % 256) + 16777216 * (x / 2 ^ 32 % 256)
+    + 4294967296 * (x / 2 ^ 24 % 256 + 256 * (x / 2 ^ 16 % 256) + 65536 * (x / 2 ^ 8 % 256) + 16777216 * (x % 256))
+
+nested : (a b c d e f g h : ℕ) → a + 256 * b + 65536 * c + 16777216 * d + 4294967296 * (e + 256 * f + 65536 * g + 16777216 * h)
+    ≡ a + 256 * (b + 256 * (c + 256 * (d + 256 * (e + 256 * (f + 256 * (g + 256 * (h + 256 * 0)))))))
+nested a b c d e f g h = omega arith
+
+reversed-lowest : (x : ℕ) → otherOrder x ≡ lowest-first (λ j. x / 2 ^ (56 - 8 * j) % 256) 8
+unfolding lowest-first
+reversed-lowest x =
+    let last : x % 256 ≡ x / 2 ^ 0 % 256 = ap (λ (y : ℕ). y % 256) (sym (div-one x)) in
+    rw last (nested _ _ _ _ _ _ _ _)
+
+pub reversed-bytes : (x i : ℕ) → i < 8 → otherOrder x / 2 ^ (8 * i) % 256 ≡ x / 2 ^ (56 - 8 * i) % 256
+reversed-bytes x i h = ap (λ (y : ℕ). y / 2 ^ (8 * i) % 256) (reversed-lowest x) ∙ lowest-at (λ j. x / 2 ^ (56 - 8 * j) % 256) 8 i (λ j. mod-lt (x / 2 ^ (56 - 8 * j)) (lit< tt)) h
+
+pub reversed-fits : (x : ℕ) → otherOrder x < 2 ^ 64
+reversed-fits x =
+    rw (reversed-lowest x) (lowest-lt (λ j. x / 2 ^ (56 - 8 * j) % 256) 8 (λ j. mod-lt (x / 2 ^ (56 - 8 * j)) (lit< tt)))
 
 -- ---- whether a run fits
 

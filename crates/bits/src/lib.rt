@@ -5,7 +5,7 @@ use answer::Refusal;
 use number::Bits;
 use number::Bytes;
 ghost use mathlib.Core.Path.{_≡_};
-ghost use Prim.Native.Nat.{_+_, _-_, _*_, _/_, _%_, _^_, _≤_, _<_};
+ghost use Prim.Native.Nat.{ℕ, _+_, _-_, _*_, _/_, _%_, _^_, _≤_, _<_};
 ghost use lib.ListN.{length};
 ghost use Rattle.octets.specs.Octets.{AreBytes};
 ghost use Rattle.bits.specs.Bits.{spelled, touched as touchedBy};
@@ -140,15 +140,31 @@ fn paste(x: u64, skipped: u64, w: u64, v: u64) -> u64
     x - (cut(x, skipped, w) << low) + (v << low)
 }
 
-// Stores the first `count` of the 8 bytes of x, the highest first.
+// x with its 8 bytes in the other order.
+fn reversed(x: u64) -> u64
+    ensures { λ r. ⌜ ((i : ℕ) → i < 8 → r / 2 ^ (8 * i) % 256 ≡ x / 2 ^ (56 - 8 * i) % 256) ⌝ }
+{
+    let high = (x >> 56) % 256
+        + 256 * ((x >> 48) % 256)
+        + 65536 * ((x >> 40) % 256)
+        + 16777216 * ((x >> 32) % 256);
+    let low = (x >> 24) % 256
+        + 256 * ((x >> 16) % 256)
+        + 65536 * ((x >> 8) % 256)
+        + 16777216 * (x % 256);
+    high + 4294967296 * low
+}
+
+// Stores the first `count` of the 8 bytes of x, the highest first: compiled, one store of all 8.
 fn store(buf: &mut [u8], from: usize, count: usize, x: u64)
     requires { ⌜ (from + count ≤ length (now buf)) × (count ≤ 8) ⌝ }
     requires { ⌜ AreBytes (now buf) ⌝ }
     ensures { λ _. ⌜ now (buf .exit) ≡ put (now (buf .entry)) (8 * from) (8 * count) (x / 2 ^ (64 - 8 * count)) ⌝ }
 {
+    let bytes = reversed(x);
     let mut i = 0;
     while i < count {
-        buf[from + i] = ((x >> (56 - 8 * i)) % 256) as u8;
+        buf[from + i] = ((bytes >> (8 * i)) % 256) as u8;
         i += 1;
     }
 }
@@ -193,7 +209,7 @@ pub fn read_number(buf: &[u8], start: BitPos, width: Bits) -> NumberRead
     }
 }
 
-// Writes a number into the bits of a run that fits.
+// Writes a number into the bits of a run that fits: the 8 bytes from its first one on are stored again, as far as the buffer goes.
 fn write_fitting(buf: &mut [u8], start: BitPos, width: Bits, v: u64) -> NumberWrite
     requires { ⌜ fitOf (length (now buf)) (globalOf start) (width .0) ≡ Fit.Fits ⌝ }
     ensures { λ r. ⌜ NumberWritten (now (buf .entry)) (now (buf .exit)) (globalOf start) (width .0) v r ⌝ }
@@ -203,7 +219,12 @@ fn write_fitting(buf: &mut [u8], start: BitPos, width: Bits, v: u64) -> NumberWr
     }
     let from = start.byte_pos().0 as usize;
     let x = paste(octets::be64(buf, from), start.bit_pos() as u64, width.0, v);
-    store(buf, from, start.touched(width).0 as usize, x);
+    let room = buf.len() - from;
+    if 8 <= room {
+        store(buf, from, 8, x);
+        return NumberWrite::Done;
+    }
+    store(buf, from, room, x);
     NumberWrite::Done
 }
 

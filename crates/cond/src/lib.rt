@@ -155,7 +155,10 @@ fn is_entry(b: &[u8]) -> bool
 fn lists(b: &[u8], wanted: &[u8]) -> bool
     ensures { λ r. ⌜ r ≡ (isEntry (now (b .entry)) && same (nameOf (now (b .entry))) (now (wanted .entry))) ⌝ }
 {
-    is_entry(b) & same_bytes(name(b), wanted)
+    if !is_entry(b) {
+        return false;
+    }
+    same_bytes(name(b), wanted)
 }
 
 // Cond 7: whether an entry before block i lists the same field.

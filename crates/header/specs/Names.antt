@@ -2,8 +2,9 @@
 use mathlib.Core.Bool.{Bool}
 use mathlib.Core.List.{List, [], _∷_}
 use mathlib.Core.Option.{Option, none, some}
-use Prim.Native.Nat.{ℕ}
-use Rattle.octets.specs.Octets.{same}
+use Prim.Native.Nat.{ℕ, _+_, _-_, _*_, _/_, _%_}
+use lib.ListN.{length}
+use Rattle.octets.specs.Octets.{byte, be, same}
 use Rattle.blocks.specs.Layout.{nameOf}
 use Rattle.sheet.specs.Walk.{firstWhere}
 use Rattle.sheet.specs.Blocks.{blockAt, fieldCount}
@@ -25,6 +26,12 @@ fieldNamed s name = namedAmong s name (fieldCount s)
 abbrev pub indexOf : FieldIndex → Option ℕ
 indexOf (FieldIndex.At i) = some i
 indexOf FieldIndex.None = none
+
+-- a number below 256 by which most names differ; of names that are equal it is the same, and no more is asked of it
+unfoldable pub keyOf : List ℕ → ℕ
+keyOf name =
+    let last = be name (length name - 2) 2 in
+    (37 * (length name % 256) + 5 * byte name 0 + last + last / 16) % 256
 
 -- no field may be named `type`
 abbrev pub typeWord : List ℕ

@@ -1,5 +1,5 @@
 // Headers: the names of a sheet's fields, where each field starts, and step 3, as the Rust's `Header::new` has it.
-// Nothing is kept beside the sheet: a name is looked up, and a start summed, by a walk over the F blocks.
+// Nothing is kept beside the sheet but, within step 3, which keys of names were met: a name is looked up, and a start summed, by a walk over the F blocks.
 use answer::HeaderFault;
 use answer::Refusal;
 use answer::Verdict;
@@ -8,18 +8,22 @@ use blocks::name;
 use field::Field;
 use number::Bits;
 use number::Bytes;
+use octets::be16;
+use octets::byte_at;
 use octets::same_bytes;
 use types::BuiltinTypes;
 ghost use mathlib.Core.Path.{_≡_};
-ghost use Prim.Native.Nat.{_+_, _≤_, _<_, _^_};
+ghost use mathlib.Core.Bool.{false};
+ghost use Prim.Native.Nat.{_+_, _-_, _≤_, _<_, _^_};
+ghost use lib.ListN.{length};
 ghost use Rattle.answer.specs.declared.Group.{Group};
 ghost use Rattle.answer.specs.Paper.{headerNumber, paper, refuse as refusedIf};
-ghost use Rattle.octets.specs.Octets.{same};
+ghost use Rattle.octets.specs.Octets.{be, same};
 ghost use Rattle.bits.specs.Positions.{globalOf};
 ghost use Rattle.blocks.specs.Layout.{nameOf};
 ghost use Rattle.sheet.specs.Sheet.{isSome};
 ghost use Rattle.fields.specs.Step.{fieldAt};
-ghost use Rattle.header.specs.Names.{namedAmong, fieldNamed, indexOf, isReserved};
+ghost use Rattle.header.specs.Names.{namedAmong, fieldNamed, indexOf, keyOf, isReserved};
 ghost use Rattle.header.specs.Places.{startAt, startOf, startIn};
 ghost use Rattle.header.specs.Step.{overEight, offBoundary, tooLong, faultsOf, newHeader, headerAnswer};
 
@@ -75,10 +79,35 @@ pub fn field_named(s: &[u8], wanted: &[u8]) -> FieldIndex
     named_among(s, wanted, sheet::block_counts(s).fields)
 }
 
-// Whether one of the first i fields has the name.
-fn used_before(s: &[u8], wanted: &[u8], i: usize) -> bool
+// The last two bytes of a name, as a number.
+fn last_two(called: &[u8]) -> u16
+    ensures { λ r. ⌜ r ≡ be (now (called .entry)) (length (now (called .entry)) - 2) 2 ⌝ }
+{
+    let n = called.len();
+    if n < 2 {
+        return be16(called, 0);
+    }
+    be16(called, n - 2)
+}
+
+// A number by which most names differ: their lengths, first and last bytes, mixed.
+fn key(called: &[u8]) -> u8
+    ensures { λ r. ⌜ r ≡ keyOf (now (called .entry)) ⌝ }
+{
+    let n = (called.len() % 256) as u64;
+    let first = byte_at(called, 0) as u64;
+    let last = last_two(called) as u64;
+    ((37 * n + 5 * first + last + last / 16) % 256) as u8
+}
+
+// Whether one of the first i fields has the name. No field is asked where its key was not met before.
+fn used_before(s: &[u8], wanted: &[u8], i: usize, met: bool) -> bool
+    requires { ⌜ (met ≡ false → isSome (namedAmong (now s) (now wanted) i) ≡ false) ⌝ }
     ensures { λ r. ⌜ r ≡ isSome (namedAmong (now (s .entry)) (now (wanted .entry)) i) ⌝ }
 {
+    if !met {
+        return false;
+    }
     match named_among(s, wanted, i) {
         FieldIndex::At(_) => true,
         FieldIndex::None => false,
@@ -180,15 +209,18 @@ impl Header {
         ensures { λ r. ⌜ headerAnswer r ≡ newHeader (now (s .entry)) ⌝ }
     {
         let n = sheet::block_counts(s).fields;
+        let mut keys = [false; 256];
         let mut bits = Bits(0);
         let mut i = 0;
         while i < n {
             let called = name(sheet::block(s, i));
+            let k = key(called) as usize;
             let f = field_at(s, i);
-            let v = field_fault(used_before(s, called, i), called, bits, f, i);
+            let v = field_fault(used_before(s, called, i, keys[k]), called, bits, f, i);
             if let Verdict::Refused(reason) = v {
                 return NewHeader::Refused(reason);
             }
+            keys[k] = true;
             bits = Bits(bits.0 + f.bit.0);
             i += 1;
         }

@@ -104,9 +104,14 @@ impl Place {
         let header = self.header;
         let held = self.held;
         let none = self.refuse(!self.is_place(), AccessFault::NoSuchField);
+        if let Verdict::Refused(_) = none {
+            return none;
+        }
         let short = self.refuse((n as u64) < header.0, AccessFault::BufferUnderHeader);
-        let other = self.refuse(as_bytes != held.is_bytes(), AccessFault::FieldOfOtherKind);
-        none.and_then(short.and_then(other))
+        if let Verdict::Refused(_) = short {
+            return short;
+        }
+        self.refuse(as_bytes != held.is_bytes(), AccessFault::FieldOfOtherKind)
     }
 
     // Access 4 and 5 of a number.
@@ -116,8 +121,10 @@ impl Place {
         let width = self.width;
         let held = self.held;
         let large = self.refuse(!width.holds(v), AccessFault::ValueNotTheWidth);
-        let fixed = self.refuse(held.fixed_off(v), AccessFault::FixedToItsDefault);
-        large.and_then(fixed)
+        if let Verdict::Refused(_) = large {
+            return large;
+        }
+        self.refuse(held.fixed_off(v), AccessFault::FixedToItsDefault)
     }
 
     // Access 1 to 4 of bytes; they are never fixed.
@@ -173,9 +180,13 @@ impl Place {
     {
         let start = self.start;
         let width = self.width;
-        let judged = self.reach(buf.len(), false).and_then(self.suit(v));
-        if let Verdict::Refused(_) = judged {
-            return judged;
+        let reached = self.reach(buf.len(), false);
+        if let Verdict::Refused(reason) = reached {
+            return Verdict::Refused(reason);
+        }
+        let suited = self.suit(v);
+        if let Verdict::Refused(reason) = suited {
+            return Verdict::Refused(reason);
         }
         bits::write_number(buf, start, width, v);
         Verdict::Accepted

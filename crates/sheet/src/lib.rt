@@ -5,7 +5,6 @@ use answer::Verdict;
 use blocks::layout_holds;
 use octets::byte_at;
 use octets::ones::check_holds;
-use octets::part;
 ghost use mathlib.Core.Path.{_≡_};
 ghost use mathlib.Core.Bool.{cond};
 ghost use Prim.Native.Nat.{_≤_, _<_, _^_};
@@ -32,9 +31,9 @@ pub fn block(s: &[u8], i: usize) -> &[u8]
     ensures { λ r. ⌜ now r ≡ blockAt (now (s .entry)) i ⌝ }
 {
     if i < s.len() / 512 {
-        part(s, 512 * i, 512 * i + 512)
+        &s[512 * i..512 * i + 512]
     } else {
-        part(s, 0, 0)
+        &s[..0]
     }
 }
 

@@ -1,40 +1,37 @@
--- `total` meets its contract. The loop's invariant: what is added and what is left together are the whole. Assumes nothing.
-use mathlib.Core.Path.{_≡_}
-use Prim.Native.Nat.{_+_, _*_, _-_, _%_, _≤_, _<_}
+-- `total` meets its contract. The loop's invariant: but for multiples of 65,535, what is added and what is left together are the whole.
+-- Assumes nothing.
+use mathlib.Core.Path.{_≡_, refl, _∙_}
+use Prim.Native.Nat.{_+_, _*_, _-_, _%_, _≤_}
 use native.Mathlib.Omega.{arith}
-use lib.ListN.{drop}
-use Rattle.octets.specs.Octets.{byte}
-use Rattle.octets.specs.Ones.{words, plainSum}
-use Rattle.octets.proofs.Folding.{words-more, words-none}
+use borrow.Author.Needs.{needs}
+use Rattle.octets.specs.Octets.{AreBytes}
+use Rattle.octets.specs.Ones.{words}
+use Rattle.octets.proofs.Folding.{words-of-bytes, Tallied, tallied-none, tallied-more, tallied-all}
+use Rattle.octets.proofs.Rfc1071.{swapped-folded}
 use Rattle.octets.proofs.ones.total.Statement.{statement}
 use Rattle.octets.proofs.ones.total.Tie as tie
 
 abbrev Inv-loop : tie.InvT-loop
-Inv-loop b sum₀ i₀ sum i =
-    (i ≤ 512) × (i % 2 ≡ 0) × (sum ≤ 65535 * i) × (plainSum (words b) ≡ sum + plainSum (words (drop i b)))
+Inv-loop b sum₀ i₀ sum i = (i ≤ 512) × (i % 4 ≡ 0) × (sum ≤ 4294967295 * i) × Tallied b i sum
 
 abbrev μ-loop : tie.MeasureT-loop
 μ-loop b sum₀ i₀ sum i = 512 - i
 
--- the two bytes that are read are bytes
-high : (c : tie.After-shared-slice-known Inv-loop μ-loop) → byte (c .before .before .before .args .b .now) (c .before .before .loop .i) < 256
-high c = c .shared-slice-known .given (c .before .before .loop .i) .fits
-
-low : (c : tie.After-shared-slice-known2 Inv-loop μ-loop) → byte (c .before .before .before .before .args .b .now) (c .before .before .before .loop .i + 1) < 256
-low c = c .shared-slice-known2 .given (c .before .before .before .loop .i + 1) .fits
+bytes : (c : tie.At-loop Inv-loop μ-loop) → AreBytes (c .before .before .args .b .now)
+bytes c i = c .before .shared-slice-known .given i .fits
 
 loop-again : tie.Need-loop-again Inv-loop μ-loop
 loop-again c =
-    let at-loop = c .before .before .before in
-    let a = at-loop .before .args in (
-      omega arith,
-      omega arith,
-      omega (arith, high (c .before), low c),
-      omega (arith, words-more (a .b .now) (at-loop .loop .i) (omega arith)),
-    )
+    let at-loop = c .before .before .before .before .before .before in
+    let b = at-loop .before .before .args .b .now in
+    let i = at-loop .loop .i in
+    (omega arith, omega arith, omega arith, tallied-more b i (at-loop .loop .sum) (bytes at-loop) (omega arith) _ (c .of-four .ensures .0) (at-loop .loop .inv .3))
 
 returns : tie.Need-returns Inv-loop μ-loop
-returns c = omega (arith, words-none (c .before .before .args .b .now) (c .before .loop .i) (omega arith))
+returns c =
+    let at-loop = c .before in
+    let b = at-loop .before .before .args .b .now in
+    tallied-all b (at-loop .loop .i) (at-loop .loop .sum) (omega arith) (at-loop .loop .inv .3) ∙ swapped-folded (words b) (words-of-bytes b (bytes at-loop))
 
 pub total-spec : {M : Type 1} → statement M
 total-spec =
@@ -42,15 +39,16 @@ total-spec =
     (tie.spec
     Inv-loop
     μ-loop
+    (λ c. (omega arith, refl, omega arith, tallied-none (c .before .args .b .now) 0 0 refl refl))
+    (λ c. search needs)
+    (λ c. omega arith)
+    (λ c. search needs)
+    (λ c. omega arith)
+    (λ c. search needs)
     (λ c. omega arith)
     (λ c. omega arith)
-    (λ c. omega (arith, high c))
-    (λ c. omega (arith, high c))
+    (λ c κs. search needs)
     (λ c. omega arith)
-    (λ c. omega arith)
-    (λ c. omega (arith, low c))
-    (λ c. omega (arith, high (c .before), low c))
-    (λ c. omega (arith, high (c .before), low c))
     (λ c. omega arith)
     (λ c. omega arith)
     loop-again

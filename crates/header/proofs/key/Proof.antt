@@ -1,0 +1,26 @@
+-- `key` meets its contract: it is the definition. Assumes nothing.
+use native.Mathlib.Omega.{arith}
+use borrow.Author.Needs.{needs}
+use Rattle.header.specs.Names.{keyOf}
+use Rattle.header.proofs.key.Statement.{statement}
+use Rattle.header.proofs.key.Tie as tie
+
+returns : tie.Need-returns
+unfolding keyOf
+returns c = rw (c .last-two .ensures, c .before .byte-at .ensures)
+
+pub key-spec : {M : Type 1} → statement M
+key-spec =
+    tie.close
+    (tie.spec
+    (λ c κs. search needs)
+    (λ c. search needs)
+    (λ c κs. search needs)
+    (λ c. search needs)
+    (λ c. search needs)
+    (λ c. search needs)
+    (λ c. search needs)
+    (λ c. search needs)
+    (λ c. search needs)
+    (λ c. search needs)
+    returns)
