@@ -12,11 +12,11 @@ use Rattle.lines.specs.declared.Word.{Word}
 use Rattle.lines.specs.Lines.{hexWord, wordOf}
 
 -- a short word is the name that it was made of
-name-of : (name : List ℕ) → slice 0 (wordOf name .len) (wordOf name .bytes) ≡ name
+name-of : (name : List ℕ) → slice 0 (wordOf name .1) (wordOf name .0) ≡ name
 name-of name = take-at name (replicate (11 - length name) 0) (length name) refl
 
-pub short : {w : Word} (name : List ℕ) (o : Output) {p : Output} → w ≡ wordOf name → p ≡ emit (32 ∷ slice 0 (w .len) (w .bytes)) o → p ≡ emit (32 ∷ name) o
-short name o is e = e ∙ ap (λ (v : Word). emit (32 ∷ slice 0 (v .len) (v .bytes)) o) is ∙ ap (λ (t : List ℕ). emit (32 ∷ t) o) (name-of name)
+pub short : {w : Word} (name : List ℕ) (o : Output) {p : Output} → w ≡ wordOf name → p ≡ emit (32 ∷ slice 0 (w .1) (w .0)) o → p ≡ emit (32 ∷ name) o
+short name o is e = e ∙ ap (λ (v : Word). emit (32 ∷ slice 0 (v .1) (v .0)) o) is ∙ ap (λ (t : List ℕ). emit (32 ∷ t) o) (name-of name)
 
 -- bytes in hex: no word where there are none, else one
 pub no-hex : (s : List ℕ) {o : Output} → length s ≡ 0 → o ≡ emit (spaced (hexWord s)) o

@@ -91,4 +91,4 @@ rangeWords none = []
 -- ---- inside: a word of up to 11 bytes, zeros after it
 
 abbrev pub wordOf : List ℕ → Word
-wordOf name = record { bytes = name ++ replicate (11 - length name) 0; len = length name }
+wordOf name = record { 0 = name ++ replicate (11 - length name) 0; 1 = length name }

@@ -28,69 +28,33 @@ ghost use Rattle.expr.specs.Forms.{lengthOf};
 ghost use Rattle.bounds.specs.Bounds.{numbersOf};
 ghost use Rattle.lines.specs.Lines.{groupName, refusalLine, headerLine, fieldLine, hexWord, templateLine, slotName, numberWord, undefinedLine, workedLine, lengthLine, rangeWords, wordOf};
 
-// A short word: the first `len` bytes.
-struct Word {
-    bytes: [u8; 11],
-    len: usize,
-}
+// A short word: so many of the bytes.
+struct Word([u8; 11], usize);
 
 // ---- words
 
 fn put_short(out: &mut [u8], to: Cursor, w: Word) -> Cursor
-    ensures { λ r. ⌜ (now (out .exit), r) ≡ emit (32 ∷ slice 0 (w .len) (w .bytes)) (now (out .entry), to) ⌝ }
+    ensures { λ r. ⌜ (now (out .exit), r) ≡ emit (32 ∷ slice 0 (w .1) (w .0)) (now (out .entry), to) ⌝ }
 {
-    let bytes = w.bytes;
-    put_word(out, to, part(&bytes, 0, w.len))
+    let bytes = w.0;
+    put_word(out, to, part(&bytes, 0, w.1))
 }
 
 fn group_word(group: Group) -> Word
     ensures { λ r. ⌜ r ≡ wordOf (groupName group) ⌝ }
 {
     match group {
-        Group::Number => Word {
-            bytes: *b"number\0\0\0\0\0",
-            len: 6,
-        },
-        Group::Type => Word {
-            bytes: *b"type\0\0\0\0\0\0\0",
-            len: 4,
-        },
-        Group::Sheet => Word {
-            bytes: *b"sheet\0\0\0\0\0\0",
-            len: 5,
-        },
-        Group::Field => Word {
-            bytes: *b"field\0\0\0\0\0\0",
-            len: 5,
-        },
-        Group::Header => Word {
-            bytes: *b"header\0\0\0\0\0",
-            len: 6,
-        },
-        Group::Length => Word {
-            bytes: *b"length\0\0\0\0\0",
-            len: 6,
-        },
-        Group::Cond => Word {
-            bytes: *b"cond\0\0\0\0\0\0\0",
-            len: 4,
-        },
-        Group::Position => Word {
-            bytes: *b"position\0\0\0",
-            len: 8,
-        },
-        Group::Bound => Word {
-            bytes: *b"bound\0\0\0\0\0\0",
-            len: 5,
-        },
-        Group::Access => Word {
-            bytes: *b"access\0\0\0\0\0",
-            len: 6,
-        },
-        Group::Room => Word {
-            bytes: *b"room\0\0\0\0\0\0\0",
-            len: 4,
-        },
+        Group::Number => Word(*b"number\0\0\0\0\0", 6),
+        Group::Type => Word(*b"type\0\0\0\0\0\0\0", 4),
+        Group::Sheet => Word(*b"sheet\0\0\0\0\0\0", 5),
+        Group::Field => Word(*b"field\0\0\0\0\0\0", 5),
+        Group::Header => Word(*b"header\0\0\0\0\0", 6),
+        Group::Length => Word(*b"length\0\0\0\0\0", 6),
+        Group::Cond => Word(*b"cond\0\0\0\0\0\0\0", 4),
+        Group::Position => Word(*b"position\0\0\0", 8),
+        Group::Bound => Word(*b"bound\0\0\0\0\0\0", 5),
+        Group::Access => Word(*b"access\0\0\0\0\0", 6),
+        Group::Room => Word(*b"room\0\0\0\0\0\0\0", 4),
     }
 }
 
@@ -98,18 +62,9 @@ fn slot_word(slot: u8) -> Word
     ensures { λ r. ⌜ r ≡ wordOf (slotName slot) ⌝ }
 {
     match slot {
-        0 => Word {
-            bytes: *b"header_len\0",
-            len: 10,
-        },
-        1 => Word {
-            bytes: *b"payload_len",
-            len: 11,
-        },
-        _ => Word {
-            bytes: *b"packet_len\0",
-            len: 10,
-        },
+        0 => Word(*b"header_len\0", 10),
+        1 => Word(*b"payload_len", 11),
+        _ => Word(*b"packet_len\0", 10),
     }
 }
 

@@ -4,7 +4,7 @@
 use std::hint::black_box;
 use std::time::Instant;
 
-use oracle::sheet::{CondBlock, Default, End, FieldBlock, Form, LengthBlock, Range, Sheet};
+use oracle::sheet::{CondBlock, DefaultItem, End, FieldBlock, Form, LengthBlock, Range, Sheet};
 
 const ROUNDS: usize = 201;
 
@@ -81,7 +81,7 @@ fn template(sheet: &[u8]) -> Times {
     times
 }
 
-fn number(name: &str, bits: u32, default: Default) -> FieldBlock {
+fn number(name: &str, bits: u32, default: DefaultItem) -> FieldBlock {
     FieldBlock { name: name.to_string(), bits, repr: 0, arg: 0, gen: 0, default, fixed: false }
 }
 
@@ -99,14 +99,14 @@ fn large(last: u64) -> Sheet {
     let group = |g: u32| {
         let named = |what: &str, bits, default| number(&format!("{what}_{g}"), bits, default);
         [
-            named("version", 4, Default::Number(4)),
-            FieldBlock { gen: 1, ..named("header_length", 4, Default::Number(12)) },
-            named("type_of_service", 8, Default::Absent),
-            FieldBlock { gen: 1, ..named("total_length", 16, Default::Number(96)) },
-            FieldBlock { repr: 5, ..named("address", 48, Default::Bytes(vec![2, 0, 0, 1, 2, 3])) },
-            FieldBlock { arg: 6, ..named("flag", 1, Default::Number(1)) },
-            named("reserved", 3, Default::Number(0)),
-            named("fragment_offset", 12, Default::Number(77)),
+            named("version", 4, DefaultItem::Number(4)),
+            FieldBlock { gen: 1, ..named("header_length", 4, DefaultItem::Number(12)) },
+            named("type_of_service", 8, DefaultItem::Absent),
+            FieldBlock { gen: 1, ..named("total_length", 16, DefaultItem::Number(96)) },
+            FieldBlock { repr: 5, ..named("address", 48, DefaultItem::Bytes(vec![2, 0, 0, 1, 2, 3])) },
+            FieldBlock { arg: 6, ..named("flag", 1, DefaultItem::Number(1)) },
+            named("reserved", 3, DefaultItem::Number(0)),
+            named("fragment_offset", 12, DefaultItem::Number(77)),
         ]
     };
     let cond = |g: u32| {
@@ -125,11 +125,11 @@ fn large(last: u64) -> Sheet {
 fn small() -> Sheet {
     Sheet {
         fields: vec![
-            number("ver", 4, Default::Number(4)),
-            FieldBlock { gen: 1, ..number("hl", 4, Default::Number(1)) },
-            FieldBlock { gen: 1, ..number("size", 12, Default::Absent) },
-            FieldBlock { arg: 6, ..number("flag", 1, Default::Number(1)) },
-            number("rest", 3, Default::Number(5)),
+            number("ver", 4, DefaultItem::Number(4)),
+            FieldBlock { gen: 1, ..number("hl", 4, DefaultItem::Number(1)) },
+            FieldBlock { gen: 1, ..number("size", 12, DefaultItem::Absent) },
+            FieldBlock { arg: 6, ..number("flag", 1, DefaultItem::Number(1)) },
+            number("rest", 3, DefaultItem::Number(5)),
         ],
         lengths: vec![length(0, "hl", Form::Times(4)), length(2, "size", Form::X)],
         conds: vec![CondBlock { name: "ver".to_string(), ranges: vec![within(4, End::Included(4))] }],
