@@ -6,7 +6,7 @@ use Rattle.text.specs.Text.{ascii, digits, decimal, hex, spaced, line}
 use Rattle.answer.specs.declared.Group.{Group}
 use Rattle.expr.specs.declared.UsableAlgExpr.{UsableAlgExpr}
 use Rattle.slots.specs.declared.LengthField.{LengthField}
-use Rattle.lines.specs.Lines.{refusalLine, hexWord, templateLine, undefinedLine, workedLine, lengthLine}
+use Rattle.lines.specs.Lines.{refusalLine, templateLine, undefinedLine, workedLine, lengthLine}
 
 a-refusal : refusalLine Group.Length 12 98 ≡ ascii "refused length 12 98\n"
 unfolding refusalLine line spaced decimal digits

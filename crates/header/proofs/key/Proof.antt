@@ -1,5 +1,4 @@
 -- `key` meets its contract: it is the definition. Assumes nothing.
-use native.Mathlib.Omega.{arith}
 use borrow.Author.Needs.{needs}
 use Rattle.header.specs.Names.{keyOf}
 use Rattle.header.proofs.key.Statement.{statement}

@@ -1,5 +1,5 @@
 -- `put_length` meets its contract: by what the slot holds. Assumes nothing.
-use mathlib.Core.Path.{_≡_, sym}
+use mathlib.Core.Path.{sym}
 use Rattle.text.proofs.Laws.{emit-none}
 use borrow.Author.Needs.{needs}
 use Rattle.lines.proofs.put_length.Statement.{statement}

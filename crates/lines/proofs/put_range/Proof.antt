@@ -1,5 +1,4 @@
 -- `put_range` meets its contract. Assumes nothing.
-use mathlib.Core.Path.{_≡_}
 use Rattle.text.proofs.Laws.{word, no-words}
 use borrow.Author.Needs.{needs}
 use Rattle.lines.proofs.put_range.Statement.{statement}

@@ -1,5 +1,5 @@
 -- `put_refusal` meets its contract: the line's words, one after another; what is on paper is what the refusal says. Assumes nothing.
-use mathlib.Core.Path.{_≡_, ap, _∙_}
+use mathlib.Core.Path.{ap, _∙_}
 use Rattle.text.proofs.Laws.{word, no-words, ended}
 use Rattle.text.specs.Output.{emit}
 use Rattle.answer.specs.declared.OnPaper.{OnPaper}

@@ -1,5 +1,5 @@
 -- `put_type` meets its contract: the part of the five bytes is the name. Assumes nothing.
-use mathlib.Core.Path.{_≡_, ap, _∙_}
+use mathlib.Core.Path.{ap, _∙_}
 use mathlib.Core.List.{List, _∷_}
 use Prim.Native.Nat.{ℕ}
 use lib.Seq.{slice}

@@ -1,5 +1,5 @@
 -- `read_rest` comes to an end: the buffer keeps its length, and the number of turns is bounded. Assumes nothing.
-use mathlib.Core.Path.{_≡_, sym, _∙_}
+use mathlib.Core.Path.{_≡_, sym}
 use Prim.Native.Nat.{_-_}
 use native.Mathlib.Omega.{arith}
 use lib.ListN.{length}

@@ -1,5 +1,5 @@
 -- `list` meets its contract: a text from the buffer's start on. Assumes nothing.
-use mathlib.Core.Path.{_≡_, _∙_}
+use mathlib.Core.Path.{_∙_}
 use Rattle.text.proofs.Whole.{from-start}
 use borrow.Author.Needs.{needs}
 use Rattle.listing.proofs.list.Statement.{statement}

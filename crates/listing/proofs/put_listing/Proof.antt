@@ -1,5 +1,5 @@
 -- `put_listing` meets its contract: the lines one after another, of an accepted sheet, which has a header, and whose counts are small. Assumes nothing.
-use mathlib.Core.Path.{_≡_, ap, _∙_}
+use mathlib.Core.Path.{ap, _∙_}
 use native.Mathlib.Omega.{arith}
 use lib.Seq.{slice}
 use Rattle.text.proofs.Laws.{then, kept}

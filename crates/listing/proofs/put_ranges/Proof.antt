@@ -1,5 +1,5 @@
 -- `put_ranges` meets its contract. The loop's invariant: the ranges that are left, from here on, are all of them from the start. Assumes nothing.
-use mathlib.Core.Path.{_≡_, refl, sym, ap, _∙_}
+use mathlib.Core.Path.{_≡_, sym, ap, _∙_}
 use Prim.Native.Nat.{ℕ, _+_, _-_}
 use native.Mathlib.Omega.{arith}
 use Rattle.text.specs.Text.{spaced}

@@ -1,6 +1,4 @@
 -- `put_slot` meets its contract: the slot's parts are what the definition names. Assumes nothing.
-use mathlib.Core.Path.{_≡_, ap, _∙_}
-use Rattle.listing.specs.Listing.{slotText}
 use borrow.Author.Needs.{needs}
 use Rattle.listing.proofs.put_slot.Statement.{statement}
 use Rattle.listing.proofs.put_slot.Tie as tie

@@ -1,5 +1,5 @@
 -- `put_text` meets its contract: by the answer to the template, whose bytes are then in front of the buffer. Assumes nothing.
-use mathlib.Core.Path.{_≡_, sym, ap, _∙_}
+use mathlib.Core.Path.{sym, ap, _∙_}
 use mathlib.Core.List.{List}
 use Prim.Native.Nat.{ℕ}
 use Rattle.text.specs.declared.Cursor.{Cursor}
