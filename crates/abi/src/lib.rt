@@ -138,19 +138,42 @@ fn held_from(held: u64, default: u64) -> Held
     }
 }
 
-// The place of six numbers.
+fn place_of(index: u64, header: u64, start: u64, width: u64, held: u64, default: u64) -> Place
+    ensures { λ r. ⌜ r ≡ placeFrom (index ∷ header ∷ start ∷ width ∷ held ∷ default ∷ []) ⌝ }
+{
+    Place {
+        index: index as usize,
+        header: Bytes(header),
+        start: BitPos {
+            global: Bits(start),
+        },
+        width: Bits(width),
+        held: held_from(held, default),
+    }
+}
+
+// The place of six numbers: one test, where there are so many.
 fn place_from(numbers: &[u64]) -> Place
     ensures { λ r. ⌜ r ≡ placeFrom (now (numbers .entry)) ⌝ }
 {
-    Place {
-        index: number_at(numbers, 0) as usize,
-        header: Bytes(number_at(numbers, 1)),
-        start: BitPos {
-            global: Bits(number_at(numbers, 2)),
-        },
-        width: Bits(number_at(numbers, 3)),
-        held: held_from(number_at(numbers, 4), number_at(numbers, 5)),
+    if 6 <= numbers.len() {
+        return place_of(
+            numbers[0],
+            numbers[1],
+            numbers[2],
+            numbers[3],
+            numbers[4],
+            numbers[5],
+        );
     }
+    place_of(
+        number_at(numbers, 0),
+        number_at(numbers, 1),
+        number_at(numbers, 2),
+        number_at(numbers, 3),
+        number_at(numbers, 4),
+        0,
+    )
 }
 
 // ---- lengths in numbers

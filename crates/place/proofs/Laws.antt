@@ -1,7 +1,7 @@
 -- What access 1 to 3 let pass at a place, and the contracts by their cases: a refusal stands and changes nothing; past it the run is inside the buffer
 -- and has its shape, so that the functions on runs answer. Then: answers that say the same are the same. Assumes nothing.
 use mathlib.Core.Path.{_≡_, refl, sym, ap, _∙_}
-use mathlib.Core.Bool.{Bool, true, false, not, _&&_}
+use mathlib.Core.Bool.{Bool, true, false, not, _&&_, _||_}
 use mathlib.Core.List.{List}
 use mathlib.Core.Logic.{_↔_}
 use Prim.Native.Nat.{ℕ, _+_, _*_, _/_, _%_, _≤_}
@@ -24,7 +24,7 @@ use Rattle.bits.specs.Writes.{put}
 use Rattle.bits.specs.Runs.{readNumber, NumberWritten, bytesAt, BytesWritten}
 use Rattle.bits.proofs.Windows.{fit-fits}
 use Rattle.bits.proofs.Laws.{number-put, bytes-put}
-use Rattle.layout.specs.Access.{Value, number, bytes, ofBytes, says, Fits, suit}
+use Rattle.layout.specs.Access.{Value, number, bytes, ofBytes, says, Fits, reachBy, suit}
 use Rattle.layout.proofs.Access.{kind-is, fits-is}
 use Rattle.place.specs.declared.Held.{Held}
 use Rattle.place.specs.declared.Place.{Place}
@@ -60,6 +60,17 @@ pub reached-is : (p : Place) (n : ℕ) (asBytes : Bool) → (reachAt p n asBytes
 unfolding reachAt isPlace
 reached-is p n asBytes = simp (both-is, refuse-is, not-is, and-is, leb-is, leb-is-not, kind-is)
     (λ q. record { inside = q .0 .0; shape = q .0 .1; long = omega arith; kind = q .1 .1 }, λ r. ((r .inside, r .shape), (omega arith, r .kind)))
+
+-- three tests in order: none of them holds, or the first that does refuses
+pub none-of : (none short other : Bool) (i : ℕ) → not ((none || short) || other) ≡ true → accepted ≡ reachBy none short other i
+none-of true short other i e = clash (sym e)
+none-of false true other i e = clash (sym e)
+none-of false false true i e = clash (sym e)
+none-of false false false i e = refl
+
+pub third-of : (none short other : Bool) (i : ℕ) → not ((none || short) || other) ≡ false → none ≡ false → short ≡ false → refused Group.Access 3 i ≡ reachBy none short other i
+third-of none short true i e a b = rw (a, b)
+third-of none short false i e a b = clash (rw (a, b) at e)
 
 number-narrow : (h : Held) (s w : ℕ) → hasShape h s w ≡ true → false ≡ isBytes h → touched s w ≤ 8
 number-narrow (Held.Number default fixed) s w shape kind = leb-true (touched s w) 8 shape

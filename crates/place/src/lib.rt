@@ -97,21 +97,25 @@ impl Place {
         Verdict::refuse(test, Refusal::Access(fault, self.index))
     }
 
-    // Access 1 to 3, in a buffer of n bytes.
+    // Access 1 to 3, in a buffer of n bytes: all three tests at once, and which it was only where one fails.
     fn reach(self, n: usize, as_bytes: bool) -> Verdict
         ensures { λ r. ⌜ paper r ≡ reachAt self n as_bytes ⌝ }
     {
         let header = self.header;
         let held = self.held;
-        let none = self.refuse(!self.is_place(), AccessFault::NoSuchField);
-        if let Verdict::Refused(_) = none {
-            return none;
+        let none = !self.is_place();
+        let short = (n as u64) < header.0;
+        let other = as_bytes != held.is_bytes();
+        if !(none | short | other) {
+            return Verdict::Accepted;
         }
-        let short = self.refuse((n as u64) < header.0, AccessFault::BufferUnderHeader);
-        if let Verdict::Refused(_) = short {
-            return short;
+        if none {
+            return Verdict::Refused(Refusal::Access(AccessFault::NoSuchField, self.index));
         }
-        self.refuse(as_bytes != held.is_bytes(), AccessFault::FieldOfOtherKind)
+        if short {
+            return Verdict::Refused(Refusal::Access(AccessFault::BufferUnderHeader, self.index));
+        }
+        Verdict::Refused(Refusal::Access(AccessFault::FieldOfOtherKind, self.index))
     }
 
     // Access 4 and 5 of a number.

@@ -14,10 +14,10 @@ fn main() {
     row("check, the eight blocks of the lister's example", check(&small, true, 200));
     row("check, the large sheet refused at its last block", check(&refused, false, 20));
     row("template of the large sheet", template(&large));
-    let widths: Vec<_> =
-        (1..=64).map(|width| by_hand::runs(width).map(|run| (reads(&run), writes(&run))).collect()).collect();
-    rows("reads", &widths, |(read, _)| *read);
-    rows("writes", &widths, |(_, write)| *write);
+    rows("reads", reads);
+    rows("reads behind C", reads_behind_c);
+    rows("writes", writes);
+    rows("writes behind C", writes_behind_c);
 }
 
 /// Nanoseconds of the port and of Rust.
@@ -28,14 +28,14 @@ fn row(what: &str, (port, rust): Times) {
 }
 
 /// All runs of 1 to 64 bits together, and the width that fares worst.
-fn rows(what: &str, widths: &[Vec<(Times, Times)>], of: impl Fn(&(Times, Times)) -> Times) {
-    let sum =
-        |times: &mut dyn Iterator<Item = Times>| times.fold((0.0, 0.0), |(p, r), (port, rust)| (p + port, r + rust));
-    let of_width: Vec<Times> = widths.iter().map(|runs| sum(&mut runs.iter().map(&of))).collect();
-    let (port, rust) = sum(&mut of_width.iter().copied());
+fn rows(what: &str, times: impl Fn(&by_hand::Run) -> Times) {
+    let sum = |times: Vec<Times>| times.iter().fold((0.0, 0.0), |(p, r), (port, rust)| (p + port, r + rust));
+    let widths: Vec<Vec<Times>> = (1..=64).map(|width| by_hand::runs(width).map(|run| times(&run)).collect()).collect();
     let count = widths.iter().map(Vec::len).sum::<usize>() as f64;
-    row(&format!("{what}, 1 to 64 bits at offsets 0 to 7"), (port / count, rust / count));
+    let of_width: Vec<Times> = widths.into_iter().map(sum).collect();
     let worst = of_width.iter().map(|(port, rust)| port / rust).fold(0.0, f64::max);
+    let (port, rust) = sum(of_width);
+    row(&format!("{what}, 1 to 64 bits at offsets 0 to 7"), (port / count, rust / count));
     println!("{:50} {worst:5.2}", format!("{what}, the worst width"));
 }
 
@@ -244,30 +244,73 @@ const BYTES: [u8; 64] = [0x5a; 64];
 
 fn reads(run: &by_hand::Run) -> Times {
     let place = run.place();
-    assert_eq!(port::read(&place, &BYTES), run.read(&BYTES));
+    assert_eq!(c::read(port::pktfmt_read_number, &place, &BYTES), run.read(&BYTES));
     compare(
         100,
-        || _ = black_box(port::read(black_box(&place), black_box(&BYTES))),
+        || _ = black_box(c::read(port::pktfmt_read_number, black_box(&place), black_box(&BYTES))),
         || _ = black_box(black_box(run).read(black_box(&BYTES))),
     )
 }
 
+fn reads_behind_c(run: &by_hand::Run) -> Times {
+    let place = run.place();
+    assert_eq!(c::read(behind_c::read_number, &place, &BYTES), run.read(&BYTES));
+    compare(
+        100,
+        || _ = black_box(c::read(port::pktfmt_read_number, black_box(&place), black_box(&BYTES))),
+        || _ = black_box(c::read(behind_c::read_number, black_box(&place), black_box(&BYTES))),
+    )
+}
+
 fn writes(run: &by_hand::Run) -> Times {
-    let (place, value) = (run.place(), 0x0123_4567_89ab_cdef >> (64 - run.width));
+    let (place, value) = (run.place(), run.value());
     let (mut left, mut right) = (BYTES, BYTES);
     let times = compare(
         100,
-        || assert!(port::write(black_box(&place), black_box(&mut left), black_box(value))),
+        || assert!(c::write(port::pktfmt_write_number, black_box(&place), black_box(&mut left), black_box(value))),
         || assert!(black_box(run).write(black_box(&mut right), black_box(value))),
     );
     assert_eq!(left, right);
     times
 }
 
-/// The two functions of include/pktfmt.h, each with a place that was worked out before.
+fn writes_behind_c(run: &by_hand::Run) -> Times {
+    let (place, value) = (run.place(), run.value());
+    let (mut left, mut right) = (BYTES, BYTES);
+    let times = compare(
+        100,
+        || assert!(c::write(port::pktfmt_write_number, black_box(&place), black_box(&mut left), black_box(value))),
+        || assert!(c::write(behind_c::write_number, black_box(&place), black_box(&mut right), black_box(value))),
+    );
+    assert_eq!(left, right);
+    times
+}
+
+/// Calls of functions of the types that include/pktfmt.h has: numbers and slices go in, and the answer is in a lent slice.
+mod c {
+    pub type Read = unsafe extern "C" fn(*const u64, usize, *const u8, usize, *mut u64, usize) -> bool;
+    pub type Write = unsafe extern "C" fn(*const u64, usize, *mut u8, usize, u64, *mut u64, usize) -> bool;
+
+    #[inline(always)]
+    pub fn read(function: Read, place: &[u64; 6], buf: &[u8]) -> Option<u64> {
+        let mut told = [0; 3];
+        // SAFETY: pointers and counts are those of slices.
+        let accepted = unsafe { function(place.as_ptr(), 6, buf.as_ptr(), buf.len(), told.as_mut_ptr(), 3) };
+        accepted.then_some(told[0])
+    }
+
+    #[inline(always)]
+    pub fn write(function: Write, place: &[u64; 6], buf: &mut [u8], value: u64) -> bool {
+        let mut told = [0; 3];
+        // SAFETY: pointers and counts are those of slices, and the borrows keep them apart.
+        unsafe { function(place.as_ptr(), 6, buf.as_mut_ptr(), buf.len(), value, told.as_mut_ptr(), 3) }
+    }
+}
+
+/// The two functions of include/pktfmt.h that take a place, which was worked out before.
 mod port {
     extern "C" {
-        fn pktfmt_read_number(
+        pub fn pktfmt_read_number(
             place: *const u64,
             place_len: usize,
             buf: *const u8,
@@ -275,7 +318,7 @@ mod port {
             answer: *mut u64,
             answer_len: usize,
         ) -> bool;
-        fn pktfmt_write_number(
+        pub fn pktfmt_write_number(
             place: *const u64,
             place_len: usize,
             buf: *mut u8,
@@ -285,29 +328,112 @@ mod port {
             answer_len: usize,
         ) -> bool;
     }
+}
 
-    pub fn read(place: &[u64; 6], buf: &[u8]) -> Option<u64> {
-        let mut told = [0; 3];
-        // SAFETY: pointers and counts are those of slices.
-        let accepted = unsafe { pktfmt_read_number(place.as_ptr(), 6, buf.as_ptr(), buf.len(), told.as_mut_ptr(), 3) };
-        accepted.then_some(told[0])
+/// The same two by hand: a place of any six numbers, and which access it was that refused.
+mod behind_c {
+    use std::slice::{from_raw_parts, from_raw_parts_mut};
+
+    use super::by_hand::Run;
+
+    #[inline(never)]
+    pub unsafe extern "C" fn read_number(
+        place: *const u64,
+        place_len: usize,
+        buf: *const u8,
+        buf_len: usize,
+        answer: *mut u64,
+        answer_len: usize,
+    ) -> bool {
+        // SAFETY: the caller's pointers and counts are those of slices.
+        let (place, buf, answer) = unsafe {
+            (from_raw_parts(place, place_len), from_raw_parts(buf, buf_len), from_raw_parts_mut(answer, answer_len))
+        };
+        let run = Run::of(place);
+        match run.reach(place, buf.len()) {
+            Ok(first) => tell(answer, [run.number(buf, first)]),
+            Err(access) => !tell(answer, [10, access, number_at(place, 0)]),
+        }
     }
 
-    pub fn write(place: &[u64; 6], buf: &mut [u8], value: u64) -> bool {
-        let mut told = [0; 3];
-        // SAFETY: pointers and counts are those of slices, and the borrows keep them apart.
-        unsafe { pktfmt_write_number(place.as_ptr(), 6, buf.as_mut_ptr(), buf.len(), value, told.as_mut_ptr(), 3) }
+    #[inline(never)]
+    pub unsafe extern "C" fn write_number(
+        place: *const u64,
+        place_len: usize,
+        buf: *mut u8,
+        buf_len: usize,
+        value: u64,
+        answer: *mut u64,
+        answer_len: usize,
+    ) -> bool {
+        // SAFETY: the caller's pointers and counts are those of slices, which lie apart.
+        let (place, buf, answer) = unsafe {
+            (from_raw_parts(place, place_len), from_raw_parts_mut(buf, buf_len), from_raw_parts_mut(answer, answer_len))
+        };
+        let run = Run::of(place);
+        match run.reach(place, buf.len()).and_then(|first| run.suit(value).map(|()| first)) {
+            Ok(first) => {
+                run.put(buf, first, value);
+                true
+            }
+            Err(access) => !tell(answer, [10, access, number_at(place, 0)]),
+        }
+    }
+
+    /// The number at an index; 0 past the end.
+    #[inline]
+    fn number_at(numbers: &[u64], at: usize) -> u64 {
+        numbers.get(at).copied().unwrap_or(0)
+    }
+
+    /// As many of the numbers as there is room for; true.
+    #[inline]
+    fn tell<const N: usize>(answer: &mut [u64], numbers: [u64; N]) -> bool {
+        answer.iter_mut().zip(numbers).for_each(|(told, number)| *told = number);
+        true
+    }
+
+    impl Run {
+        #[inline]
+        fn of(place: &[u64]) -> Run {
+            let at = |i| number_at(place, i);
+            Run { header: at(1) as usize, start: at(2), width: at(3), default: at(5), fixed: at(4) == 1 }
+        }
+
+        /// The first byte, or access 1 to 3.
+        #[inline]
+        fn reach(&self, place: &[u64], len: usize) -> Result<usize, u64> {
+            let (first, touched) = (self.start / 8, self.width / 8 + (self.start % 8 + self.width % 8 + 7) / 8);
+            let bytes = number_at(place, 4) > 1;
+            let shape = if bytes { self.start % 8 == 0 && self.width % 8 == 0 } else { touched <= 8 };
+            match () {
+                () if !shape || first + touched > self.header as u64 => Err(1),
+                () if len < self.header => Err(2),
+                () if bytes => Err(3),
+                () => Ok(first as usize),
+            }
+        }
+
+        /// Access 4 and 5.
+        #[inline]
+        fn suit(&self, value: u64) -> Result<(), u64> {
+            match () {
+                () if self.width < 64 && value >> self.width != 0 => Err(4),
+                () if self.fixed && value != self.default => Err(5),
+                () => Ok(()),
+            }
+        }
     }
 }
 
 /// Reading and writing by hand: a window of 8 bytes, shifts and masks; refused where the place or the value asks for it, as in the port.
 mod by_hand {
     pub struct Run {
-        header: usize,
-        start: u64,
+        pub header: usize,
+        pub start: u64,
         pub width: u64,
-        default: u64,
-        fixed: bool,
+        pub default: u64,
+        pub fixed: bool,
     }
 
     /// The runs of a width from each bit of a byte on that touch at most 8 bytes.
@@ -327,6 +453,11 @@ mod by_hand {
             [0, self.header as u64, self.start, self.width, self.fixed.into(), self.default]
         }
 
+        /// A number that fills the run.
+        pub fn value(&self) -> u64 {
+            0x0123_4567_89ab_cdef >> (64 - self.width)
+        }
+
         /// The first byte, if the run lies in the header and the header in the buffer.
         #[inline]
         fn first(&self, buf: &[u8]) -> Option<usize> {
@@ -337,24 +468,36 @@ mod by_hand {
         #[inline(never)]
         pub fn read(&self, buf: &[u8]) -> Option<u64> {
             let first = self.first(buf)?;
-            Some(window(buf, first) << (self.start % 8) >> (64 - self.width))
+            Some(self.number(buf, first))
         }
 
         #[inline(never)]
         pub fn write(&self, buf: &mut [u8], value: u64) -> bool {
             let Some(first) = self.first(buf) else { return false };
-            let most = u64::MAX >> (64 - self.width);
-            if value > most || (self.fixed && value != self.default) {
+            if value > u64::MAX >> (64 - self.width) || (self.fixed && value != self.default) {
                 return false;
             }
+            self.put(buf, first, value);
+            true
+        }
+
+        /// The number in the run, from its first byte on.
+        #[inline]
+        pub fn number(&self, buf: &[u8], first: usize) -> u64 {
+            window(buf, first) << (self.start % 8) >> (64 - self.width)
+        }
+
+        /// The number into the run, from its first byte on.
+        #[inline]
+        pub fn put(&self, buf: &mut [u8], first: usize, value: u64) {
             let below = 64 - self.start % 8 - self.width;
+            let most = u64::MAX >> (64 - self.width);
             let bytes = (window(buf, first) & !(most << below) | value << below).to_be_bytes();
             let count = bytes.len().min(buf.len() - first);
             match <&mut [u8; 8]>::try_from(&mut buf[first..first + count]) {
                 Ok(all) => *all = bytes,
                 Err(_) => buf[first..].copy_from_slice(&bytes[..count]),
             }
-            true
         }
     }
 
