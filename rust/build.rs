@@ -5,9 +5,8 @@ use std::process::exit;
 
 const VARIABLE: &str = "PKTFMT_LIB_DIR";
 const FILE: &str = "libabi.a";
-const ADVICE: &str =
-    "Set PKTFMT_LIB_DIR to the absolute path of the folder that holds libabi.a: on x86-64 `rt staticlib abi` \
-    writes it to target/staticlib of the repository; elsewhere `oracle/build` writes it to target/oracle/lib.";
+const ADVICE: &str = "Set PKTFMT_LIB_DIR to the absolute path of the folder that holds libabi.a; in the folder of \
+    the repository `tools/static_library/build FOLDER` builds it for this machine, and writes it to FOLDER.";
 
 fn main() {
     println!("cargo:rerun-if-env-changed={VARIABLE}");

@@ -198,8 +198,8 @@ impl LengthBlock {
         put(block, 76, &second.to_be_bytes());
         if let Form::Tree(nodes) = &self.form {
             block[84] = nodes.len() as u8;
-            let places = block[NODES..].chunks_exact_mut(NODE);
-            nodes.iter().zip(places).for_each(|(node, place)| node.write(place));
+            let parts = block[NODES..].chunks_exact_mut(NODE);
+            nodes.iter().zip(parts).for_each(|(node, part)| node.write(part));
         }
     }
 
@@ -234,24 +234,24 @@ impl Form {
 }
 
 impl Node {
-    fn write(&self, place: &mut [u8]) {
+    fn write(&self, part: &mut [u8]) {
         match self {
-            Node::Number(number) => put(place, 4, &number.to_be_bytes()),
-            Node::Field => place[0] = 1,
-            Node::Operation { operator, left, right } => put(place, 0, &[*operator as u8, *left, *right]),
+            Node::Number(number) => put(part, 4, &number.to_be_bytes()),
+            Node::Field => part[0] = 1,
+            Node::Operation { operator, left, right } => put(part, 0, &[*operator as u8, *left, *right]),
         }
     }
 
-    fn read(place: &[u8]) -> Node {
-        let operator = match place[0] {
-            0 => return Node::Number(number(place, 4)),
+    fn read(part: &[u8]) -> Node {
+        let operator = match part[0] {
+            0 => return Node::Number(number(part, 4)),
             1 => return Node::Field,
             2 => Operator::Add,
             3 => Operator::Subtract,
             4 => Operator::Multiply,
             _ => Operator::Divide,
         };
-        Node::Operation { operator, left: place[1], right: place[2] }
+        Node::Operation { operator, left: part[1], right: part[2] }
     }
 }
 
@@ -259,13 +259,13 @@ impl CondBlock {
     fn write(&self, block: &mut [u8]) {
         write_head(block, b'C', &self.name);
         block[66] = self.ranges.len() as u8;
-        let places = block[RANGES..].chunks_exact_mut(RANGE);
-        self.ranges.iter().zip(places).for_each(|(range, place)| range.write(place));
+        let parts = block[RANGES..].chunks_exact_mut(RANGE);
+        self.ranges.iter().zip(parts).for_each(|(range, part)| range.write(part));
     }
 
     fn read(block: &[u8]) -> CondBlock {
-        let places = block[RANGES..].chunks_exact(RANGE).take(block[66].into());
-        CondBlock { name: read_name(block), ranges: places.map(Range::read).collect() }
+        let parts = block[RANGES..].chunks_exact(RANGE).take(block[66].into());
+        CondBlock { name: read_name(block), ranges: parts.map(Range::read).collect() }
     }
 
     /// Whether it has a range whose text overflows in the original, which works out start + 1 for it.
@@ -275,24 +275,24 @@ impl CondBlock {
 }
 
 impl Range {
-    fn write(&self, place: &mut [u8]) {
+    fn write(&self, part: &mut [u8]) {
         let (end_kind, end) = match self.end {
             End::None => (0, 0),
             End::Included(number) => (1, number),
             End::Excluded(number) => (2, number),
         };
-        put(place, 0, &[self.start.is_some().into(), end_kind]);
-        put(place, 2, &self.start.unwrap_or(0).to_be_bytes());
-        put(place, 10, &end.to_be_bytes());
+        put(part, 0, &[self.start.is_some().into(), end_kind]);
+        put(part, 2, &self.start.unwrap_or(0).to_be_bytes());
+        put(part, 10, &end.to_be_bytes());
     }
 
-    fn read(place: &[u8]) -> Range {
-        let end = match place[1] {
+    fn read(part: &[u8]) -> Range {
+        let end = match part[1] {
             0 => End::None,
-            1 => End::Included(number(place, 10)),
-            _ => End::Excluded(number(place, 10)),
+            1 => End::Included(number(part, 10)),
+            _ => End::Excluded(number(part, 10)),
         };
-        Range { start: (place[0] == 1).then(|| number(place, 2)), end }
+        Range { start: (part[0] == 1).then(|| number(part, 2)), end }
     }
 }
 

@@ -1,11 +1,14 @@
-//! The stored sheets of the tests (crates/stored/data/sheets), whose answers come from neither side.
+//! The stored sheets of the tests (crates/test_stored/data/sheets), whose answers come from neither side.
+
+use pktfmt_checked::Group;
 
 use crate::original::{ask, Fault, Inputs, Refused, Step};
 use crate::packing::unpacked;
 use crate::sheet::{CondBlock, Sheet};
 
-/// The groups of that file, from 1 on; 0 is a sheet that is accepted.
-const GROUPS: [&str; 5] = ["sheet", "field", "header", "length", "cond"];
+/// The groups that the original has too. In the file a group has its number in include/pktfmt.h, and 0 is a sheet that
+/// is accepted.
+const GROUPS: [Group; 4] = [Group::Field, Group::Header, Group::Length, Group::Cond];
 
 /// A stored sheet and its answer.
 pub struct Record {
@@ -41,7 +44,7 @@ pub fn records(file: &[u8]) -> Vec<Record> {
 pub fn hold(records: &[Record]) -> Outcome {
     let mut outcome = Outcome::default();
     for (index, record) in records.iter().enumerate() {
-        if record.group == 1 {
+        if record.group == Group::Sheet as u8 {
             outcome.skipped += 1;
             continue;
         }
@@ -63,8 +66,7 @@ fn agrees<T>(record: &Record, answer: &Result<T, Fault>) -> bool {
     match answer {
         Ok(_) => record.group == 0,
         Err(Fault::Refused(Refused { group, number, place })) => {
-            record.group > 0
-                && GROUPS[usize::from(record.group) - 1] == *group
+            GROUPS.into_iter().any(|other| other as u8 == record.group && other.name() == *group)
                 && u64::from(record.number) == *number
                 && place.is_none_or(|place| place == usize::from(record.place))
         }
@@ -74,7 +76,7 @@ fn agrees<T>(record: &Record, answer: &Result<T, Fault>) -> bool {
 
 /// Whether the original panics on a range that is cond 4 by the file.
 fn is_explained<T>(record: &Record, sheet: &Sheet, answer: &Result<T, Fault>) -> bool {
-    let cond_4 = (record.group, record.number) == (5, 4);
+    let cond_4 = (record.group, record.number) == (Group::Cond as u8, 4);
     let panics = matches!(answer, Err(Fault::Panicked(Step::Cond)));
     let entry = usize::from(record.place).checked_sub(sheet.first_cond()).and_then(|index| sheet.conds.get(index));
     cond_4 && panics && entry.is_some_and(CondBlock::text_overflows)

@@ -1,7 +1,7 @@
 //! The functions of `include/pktfmt.h`, declared once, each with a slice where C has a pointer and a count.
 //!
-//! What the header asks of a caller holds of every slice of Rust: all its elements are readable, a slice that is
-//! written overlaps no other, and the pointer of an empty one is not null.
+//! The header's preconditions hold of every slice of Rust: all its elements are readable, a slice that is written
+//! overlaps no other, and the pointer of an empty one is not null.
 
 mod c {
     extern "C" {
@@ -26,24 +26,24 @@ mod c {
         pub fn pktfmt_forward(form: u8, first: u64, second: u64, x: u64, answer: *mut u64, answer_len: usize) -> bool;
         pub fn pktfmt_back(form: u8, first: u64, second: u64, y: u64, answer: *mut u64, answer_len: usize) -> bool;
         pub fn pktfmt_read_number(
-            place: *const u64,
-            place_len: usize,
+            locator: *const u64,
+            locator_len: usize,
             buf: *const u8,
             buf_len: usize,
             answer: *mut u64,
             answer_len: usize,
         ) -> bool;
         pub fn pktfmt_read_bytes(
-            place: *const u64,
-            place_len: usize,
+            locator: *const u64,
+            locator_len: usize,
             buf: *const u8,
             buf_len: usize,
             answer: *mut u64,
             answer_len: usize,
         ) -> bool;
         pub fn pktfmt_write_number(
-            place: *const u64,
-            place_len: usize,
+            locator: *const u64,
+            locator_len: usize,
             buf: *mut u8,
             buf_len: usize,
             value: u64,
@@ -51,8 +51,8 @@ mod c {
             answer_len: usize,
         ) -> bool;
         pub fn pktfmt_write_bytes(
-            place: *const u64,
-            place_len: usize,
+            locator: *const u64,
+            locator_len: usize,
             buf: *mut u8,
             buf_len: usize,
             bytes: *const u8,
@@ -96,26 +96,40 @@ pub fn back(form: u8, first: u64, second: u64, y: u64, answer: &mut [u64]) -> bo
     unsafe { c::pktfmt_back(form, first, second, y, answer.as_mut_ptr(), answer.len()) }
 }
 
-pub fn read_number(place: &[u64], buf: &[u8], answer: &mut [u64]) -> bool {
+pub fn read_number(locator: &[u64], buf: &[u8], answer: &mut [u64]) -> bool {
     // SAFETY: pointers and counts are those of slices.
     unsafe {
-        c::pktfmt_read_number(place.as_ptr(), place.len(), buf.as_ptr(), buf.len(), answer.as_mut_ptr(), answer.len())
+        c::pktfmt_read_number(
+            locator.as_ptr(),
+            locator.len(),
+            buf.as_ptr(),
+            buf.len(),
+            answer.as_mut_ptr(),
+            answer.len(),
+        )
     }
 }
 
-pub fn read_bytes(place: &[u64], buf: &[u8], answer: &mut [u64]) -> bool {
+pub fn read_bytes(locator: &[u64], buf: &[u8], answer: &mut [u64]) -> bool {
     // SAFETY: pointers and counts are those of slices.
     unsafe {
-        c::pktfmt_read_bytes(place.as_ptr(), place.len(), buf.as_ptr(), buf.len(), answer.as_mut_ptr(), answer.len())
+        c::pktfmt_read_bytes(
+            locator.as_ptr(),
+            locator.len(),
+            buf.as_ptr(),
+            buf.len(),
+            answer.as_mut_ptr(),
+            answer.len(),
+        )
     }
 }
 
-pub fn write_number(place: &[u64], buf: &mut [u8], value: u64, answer: &mut [u64]) -> bool {
+pub fn write_number(locator: &[u64], buf: &mut [u8], value: u64, answer: &mut [u64]) -> bool {
     // SAFETY: pointers and counts are those of slices, and the borrows keep them apart.
     unsafe {
         c::pktfmt_write_number(
-            place.as_ptr(),
-            place.len(),
+            locator.as_ptr(),
+            locator.len(),
             buf.as_mut_ptr(),
             buf.len(),
             value,
@@ -125,12 +139,12 @@ pub fn write_number(place: &[u64], buf: &mut [u8], value: u64, answer: &mut [u64
     }
 }
 
-pub fn write_bytes(place: &[u64], buf: &mut [u8], bytes: &[u8], answer: &mut [u64]) -> bool {
+pub fn write_bytes(locator: &[u64], buf: &mut [u8], bytes: &[u8], answer: &mut [u64]) -> bool {
     // SAFETY: pointers and counts are those of slices, and the borrows keep them apart.
     unsafe {
         c::pktfmt_write_bytes(
-            place.as_ptr(),
-            place.len(),
+            locator.as_ptr(),
+            locator.len(),
             buf.as_mut_ptr(),
             buf.len(),
             bytes.as_ptr(),

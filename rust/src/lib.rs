@@ -1,6 +1,6 @@
 //! Checked definitions of packet fields.
 //!
-//! A table of packet fields, written down as a *sheet*, is checked, and from it come the place of every field to the
+//! A table of packet fields, written down as a *sheet*, is checked, and from it come where every field stands, to the
 //! bit, the starting bytes of a header, and lengths. The work is done by a proved library behind the C header
 //! `include/pktfmt.h`; this crate gives its functions Rust's types. The rules are in `docs/RULES.md`.
 //!
@@ -11,10 +11,10 @@
 //! let mut packet = vec![0; header.bytes];
 //! pktfmt_checked::template(sheet, &mut packet)?;
 //!
-//! // A place is worked out once and serves any number of buffers.
-//! let place = pktfmt_checked::place(sheet, 0)?;
-//! place.write_number(&mut packet, 4)?;
-//! assert_eq!(place.read_number(&packet)?, 4);
+//! // A locator says where a field stands; it is worked out once and serves any number of buffers.
+//! let version = pktfmt_checked::locator(sheet, 0)?;
+//! version.write_number(&mut packet, 4)?;
+//! assert_eq!(version.read_number(&packet)?, 4);
 //! # Ok(())
 //! # }
 //! ```
@@ -26,11 +26,11 @@
 mod ffi;
 
 mod length;
-mod place;
+mod locator;
 mod refusal;
 
 pub use length::{length, Form, Slot, SlotName};
-pub use place::{place, Held, Place};
+pub use locator::{locator, Held, Locator};
 pub use refusal::{Group, Refusal};
 
 /// What an accepted sheet's header has.

@@ -3,7 +3,7 @@
 mod common;
 
 use common::example;
-use pktfmt_checked::{check, length, list, list_into, place, template, Form, Header, Held, Place, Slot, SlotName};
+use pktfmt_checked::{check, length, list, list_into, locator, template, Form, Header, Held, Locator, Slot, SlotName};
 
 const LISTING: &str = "\
 header 3
@@ -46,18 +46,18 @@ fn its_template_leaves_what_comes_after_the_header() {
 }
 
 #[test]
-fn its_places() {
-    let size = Place { index: 2, header_bytes: 3, first_bit: 8, bits: 12, held: Held::Number { default: 0 } };
-    assert_eq!(place(&example(), 2), Ok(size));
-    assert_eq!(place(&example(), 4).map(|place| place.held), Ok(Held::Number { default: 5 }));
+fn its_locators() {
+    let size = Locator { index: 2, header_bytes: 3, first_bit: 8, bits: 12, held: Held::Number { default: 0 } };
+    assert_eq!(locator(&example(), 2), Ok(size));
+    assert_eq!(locator(&example(), 4).map(|locator| locator.held), Ok(Held::Number { default: 5 }));
 }
 
 #[test]
 fn what_is_written_is_read_and_its_neighbours_stay() {
     let (sheet, mut buf) = (example(), [0x41, 0x00, 0x0d]);
-    place(&sheet, 2).unwrap().write_number(&mut buf, 0xabc).unwrap();
+    locator(&sheet, 2).unwrap().write_number(&mut buf, 0xabc).unwrap();
     assert_eq!(buf, [0x41, 0xab, 0xcd]);
-    let numbers = (0..5).map(|index| place(&sheet, index).unwrap().read_number(&buf).unwrap());
+    let numbers = (0..5).map(|index| locator(&sheet, index).unwrap().read_number(&buf).unwrap());
     assert_eq!(numbers.collect::<Vec<_>>(), [4, 1, 0xabc, 1, 5]);
 }
 

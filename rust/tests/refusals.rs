@@ -3,7 +3,7 @@
 mod common;
 
 use common::{block, example, field, mixed};
-use pktfmt_checked::{check, length, list, place, template, Group, Header, Refusal, Slot, SlotName};
+use pktfmt_checked::{check, length, list, locator, template, Group, Header, Refusal, Slot, SlotName};
 
 fn refused(group: Group, number: u64, place: u64) -> Refusal {
     Refusal { group, number, place }
@@ -15,7 +15,7 @@ fn the_empty_sheet_is_accepted() {
     assert_eq!(template(&[], &mut []), Ok(()));
     assert_eq!(length(&[], SlotName::HeaderLen), Ok(Slot::Absent));
     assert_eq!(list(&[]), b"header 0\ntemplate\n");
-    assert_eq!(place(&[], 0), Err(refused(Group::Access, 1, 0)));
+    assert_eq!(locator(&[], 0), Err(refused(Group::Access, 1, 0)));
 }
 
 #[test]
@@ -49,7 +49,7 @@ fn a_sheets_refusal_comes_before_all_others() {
     let mut buf = [7; 2];
     assert_eq!(template(&sheet, &mut buf), Err(refusal));
     assert_eq!(buf, [7; 2]);
-    assert_eq!(place(&sheet, 9), Err(refusal));
+    assert_eq!(locator(&sheet, 9), Err(refusal));
     assert_eq!(length(&sheet, SlotName::PacketLen), Err(refusal));
     assert_eq!(list(&sheet), b"refused field 1 0\n");
     assert_eq!(refusal.to_string(), "refused field 1 0");
@@ -69,8 +69,8 @@ fn access_1_to_5() {
     template(&sheet, &mut buf).unwrap();
     let before = buf;
     let access = |number, index| Err(refused(Group::Access, number, index));
-    assert_eq!(place(&sheet, 4).map(drop), access(1, 4));
-    let [kind, hash, low, high] = [0, 1, 2, 3].map(|index| place(&sheet, index).unwrap());
+    assert_eq!(locator(&sheet, 4).map(drop), access(1, 4));
+    let [kind, hash, low, high] = [0, 1, 2, 3].map(|index| locator(&sheet, index).unwrap());
     assert_eq!(high.read_number(&buf[..11]), Err(refused(Group::Access, 2, 3)));
     assert_eq!(kind.write_number(&mut buf[..11], 9), access(2, 0));
     assert_eq!(low.write_bytes(&mut buf, &[1]), access(3, 2));
@@ -86,7 +86,7 @@ fn access_1_to_5() {
 fn allowed_writes() {
     let (sheet, mut buf) = (mixed(), [0; 12]);
     template(&sheet, &mut buf).unwrap();
-    let [kind, hash, low, high] = [0, 1, 2, 3].map(|index| place(&sheet, index).unwrap());
+    let [kind, hash, low, high] = [0, 1, 2, 3].map(|index| locator(&sheet, index).unwrap());
     assert_eq!(hash.read_bytes(&buf), Ok(&[0xaa, 0xbb, 0xcc][..]));
     kind.write_number(&mut buf, 9).unwrap();
     hash.write_bytes(&mut buf, &[1, 2, 3]).unwrap();

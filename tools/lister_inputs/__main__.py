@@ -4,9 +4,8 @@
     python3 tools/lister_inputs COUNT [SEED [PROGRAM]]  as told
     python3 tools/lister_inputs --check                 tests the program itself
 
-It runs in the folder of the repository. PROGRAM is target/bin/lister if it is not
-told. The examples come first, each held to its listing; then the inputs of
-inputs.py. Of each run this has to hold:
+PROGRAM is target/bin/lister of the repository if it is not told. The inputs are
+those of inputs.py. Of each run this has to hold:
 
     it ends with status 0, in a minute at most;
     it prints a listing, or one line `refused GROUP NUMBER PLACE` (shapes.py);
@@ -23,8 +22,8 @@ import sys
 from pathlib import Path
 
 HOME = Path(__file__).resolve().parent.parent.parent
-# The folders of what the tools share, and of the rules.
-sys.path += [str(HOME / "tools"), str(HOME / "tools" / "stored_sheets")]
+# The folder of the tools, for what they share, and for the rules in stored_sheets.
+sys.path.append(str(HOME / "tools"))
 
 from input_tests import check
 from runs import hold_all

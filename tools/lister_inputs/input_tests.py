@@ -4,13 +4,17 @@ import sys
 from collections import Counter
 from itertools import islice
 
-from blocks import condition, field, length, lister_sheet, shaped, unsealed
 from inputs import inputs
 from listing import listing
 from runs import fault_of_run
 from shapes import REFUSALS, fault_of, label
+from sheet_blocks import condition, field, length
+from stored_sheets.cases.block_changes import unsealed
+from stored_sheets.cases.known_sheets import lister_sheet
+from stored_sheets.cases.sheet_texts import shaped
 
-SCOPE = """header 3
+# The listing of examples/three_bytes.sheet.
+THREE_BYTES = """header 3
 field 0 0 0 4 u8 1 ver
 field 1 0 4 4 u8 1 hl
 field 2 1 0 12 u16 1 size
@@ -25,7 +29,7 @@ cond ver 4 4
 # Sheets and their texts, stated by hand.
 STATED = (
     (b"", "header 0\ntemplate\n"),
-    (b"".join(lister_sheet()), SCOPE),
+    (b"".join(lister_sheet()), THREE_BYTES),
     (field(b"a", 16, 5) + length(slot=2, form=0) + length(form=0),
      "header 2\nfield 0 0 0 16 &[u8] 0 a\ntemplate 0000\n"
      "length header_len undefined\nlength packet_len undefined\n"),
@@ -53,9 +57,9 @@ WRONG_TEXTS = (
     "header 1\nfield 0 0 0 8 u8 2 a\ntemplate 00\n",
     "header 1\nfield 0 0 0 8 u8 0 a b\ntemplate 00\n",
     "header 1\nfield 0 0 0 8 u8 0 a\ntemplate 0A\n",
-    SCOPE.replace("length header_len hl 60\n", "") + "length header_len hl 60\n",
-    SCOPE.replace("60", "060"), SCOPE.replace("60", ""), SCOPE + "cond ver 4\n",
-    SCOPE + SCOPE, SCOPE.replace("\n", "\r\n"), SCOPE + "\u00e4\n",
+    THREE_BYTES.replace("length header_len hl 60\n", "") + "length header_len hl 60\n",
+    THREE_BYTES.replace("60", "060"), THREE_BYTES.replace("60", ""), THREE_BYTES + "cond ver 4\n",
+    THREE_BYTES + THREE_BYTES, THREE_BYTES.replace("\n", "\r\n"), THREE_BYTES + "\u00e4\n",
 )
 
 
@@ -63,14 +67,20 @@ def check_texts():
     for sheet, text in STATED:
         assert listing(sheet) == text, text
         assert fault_of(text.encode(), len(sheet)) is None, text
-    assert label("refused cond 4 2\n") == "cond 4" and label(SCOPE) == "accepted"
+    assert label("refused cond 4 2\n") == "cond 4" and label(THREE_BYTES) == "accepted"
+
+
+def check_examples(home):
+    """The rules give the listing beside each sheet of examples/."""
+    for path in (home / "examples").glob("*.sheet"):
+        assert listing(path.read_bytes()) == path.with_suffix(".listing").read_text(), path
 
 
 def check_shapes():
     for text in WRONG_TEXTS:
         assert fault_of(text.encode(), 3 * 512) is not None, text
-    assert fault_of(SCOPE.encode(), 8 * 512 + 1) is not None
-    assert fault_of(SCOPE.encode(), 100 * 512) is not None
+    assert fault_of(THREE_BYTES.encode(), 8 * 512 + 1) is not None
+    assert fault_of(THREE_BYTES.encode(), 100 * 512) is not None
 
 
 def check_inputs(home):
@@ -82,8 +92,7 @@ def check_inputs(home):
         text = listing(sheet)
         assert fault_of(text.encode(), len(sheet)) is None, text
         counts[label(text)] += 1
-    wanted = {f"{group} {number}" for group in REFUSALS for number in REFUSALS[group]}
-    assert set(counts) == wanted | {"accepted"}, wanted - set(counts)
+    assert set(counts) == REFUSALS | {"accepted"}, REFUSALS - set(counts)
     assert max(len(listing(sheet)) for sheet in first) > 20_000
 
 
@@ -101,7 +110,8 @@ def check_runs():
 
 def check(home):
     check_texts()
+    check_examples(home)
     check_shapes()
     check_inputs(home)
     check_runs()
-    print("the texts, shapes, inputs and runs hold")
+    print("the texts, examples, shapes, inputs and runs hold")

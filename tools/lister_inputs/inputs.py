@@ -2,14 +2,19 @@
 
 import random
 
-from blocks import condition, field, length, patched
-from changes import Chance, changed_byte
-from mixed import mixed_sheet as mixed_header
-from mixed_lengths import mixed_sheet as mixed_lengths
-from reading import read
-from rules import BLOCK, MOST_NUMBER, NUMBER, SHEET, SLICE, blocks_of
-from shapes import MOST_BYTES_OF_SHEET, ROOM
-from sheet_blocks import sealed
+from shapes import MOST_BYTES_OF_SHEET, ROOM_OF_TEMPLATE
+from sheet_blocks import BLOCK, NUMBER, SLICE, condition, field, length, sealed
+from stored_sheets.cases.block_changes import patched
+from stored_sheets.cases.chance import Chance
+from stored_sheets.cases.changed_bytes import changed_byte
+from stored_sheets.cases.mixed_headers import mixed_header_sheet
+from stored_sheets.cases.mixed_lengths_and_conds import mixed_length_sheet
+from stored_sheets.record_readers import read_sheets
+from stored_sheets.rules.blocks import blocks_of
+from stored_sheets.rules.groups import SHEET
+from stored_sheets.rules.limits import MOST_NUMBER
+
+STORED_SHEETS = "crates/test_stored/data/sheets"
 
 
 def inputs(home, seed):
@@ -20,10 +25,10 @@ def inputs(home, seed):
 
 
 class Stored:
-    """The sheets of the crate `stored`, and those of them that pass step 1."""
+    """The stored sheets of the tests, and those of them that pass step 1."""
 
     def __init__(self, home):
-        records = read((home / "crates" / "stored" / "data" / "sheets").read_bytes())
+        records = read_sheets((home / STORED_SHEETS).read_bytes())
         self.sheets = [record.sheet for record in records]
         self.passed = [record.sheet for record in records
                        if record.sheet and record.answer[0] != SHEET]
@@ -105,7 +110,7 @@ def rearranged(chance, stored):
 
 def put_together(chance, stored):
     """A header, or lengths and conditions, as the stored sheets have some by chance."""
-    return chance.one_of((mixed_header, mixed_lengths))(chance)
+    return chance.one_of((mixed_header_sheet, mixed_length_sheet))(chance)
 
 
 def large(chance, stored):
@@ -115,9 +120,9 @@ def large(chance, stored):
     """
     names = [bytes([33 + place]).ljust(64 - chance.below(2), b"n") for place in range(64)]
     count = chance.below(63)
-    rest = ROOM - 2 - 8 * count - chance.one_of((-1, 0, 0, 1, chance.below(4_000)))
+    rest = ROOM_OF_TEMPLATE - 2 - 8 * count - chance.one_of((-1, 0, 0, 1, chance.below(4_000)))
     blocks = [field(name, 64) for name in names[:count]]
-    blocks += [field(names[62], 16, gen=1, kind=NUMBER, number=ROOM),
+    blocks += [field(names[62], 16, gen=1, kind=NUMBER, number=ROOM_OF_TEMPLATE),
                field(names[63], 8 * rest, SLICE)]
     for slot in chance.one_of(((), (0,), (0, 1), (2, 0))):
         blocks.append(chance.one_of((length(names[62], slot), length(slot=slot, form=0))))

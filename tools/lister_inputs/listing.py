@@ -4,13 +4,15 @@ They are stated there without the crates, and so is the text here: docs/RULES.md
 tells it.
 """
 
-from answers import answer
-from lengths_and_conds import blocks_of_kind, lengths, ranges
-from records import GROUPS
-from rules import (
-    ACCEPTED, SLICE, U8, U16, U32, U64, blocks_of, fields_of, header_length, name_of,
-    resolved, starts, template)
-from shapes import ROOM
+from shapes import ROOM_OF_TEMPLATE
+from sheet_blocks import SLICE, U8, U16, U32, U64
+from stored_sheets.rules.answers import answer
+from stored_sheets.rules.blocks import blocks_of, blocks_of_kind, fields_of, name_of
+from stored_sheets.rules.conds import ranges
+from stored_sheets.rules.fields import resolved
+from stored_sheets.rules.groups import ACCEPTED, ROOM, refusal_name
+from stored_sheets.rules.headers import header_length, starts, template
+from stored_sheets.rules.lengths import lengths
 
 SLOT_NAMES = ("header_len", "payload_len", "packet_len")
 TYPE_NAMES = {U8: "u8", U16: "u16", U32: "u32", U64: "u64", SLICE: "&[u8]"}
@@ -19,11 +21,11 @@ TYPE_NAMES = {U8: "u8", U16: "u16", U32: "u32", U64: "u64", SLICE: "&[u8]"}
 def listing(sheet):
     """The whole text, each line with its line feed."""
     refusal = answer(sheet)
+    if refusal == ACCEPTED and header_length(sheet) > ROOM_OF_TEMPLATE:
+        refusal = ROOM, 1, len(blocks_of(sheet))
     if refusal != ACCEPTED:
         group, number, place = refusal
-        return f"refused {GROUPS[group]} {number} {place}\n"
-    if header_length(sheet) > ROOM:
-        return f"refused room 1 {len(blocks_of(sheet))}\n"
+        return f"refused {refusal_name(group, number)} {place}\n"
     lines = [f"header {header_length(sheet)}", *field_lines(sheet),
              f"template {template(sheet).hex()}".rstrip(), *length_lines(sheet),
              *cond_lines(sheet)]

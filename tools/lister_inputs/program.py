@@ -1,36 +1,24 @@
-"""How the lister is started.
+"""How the lister is started: as tools/run_program does it."""
 
-A proved program is for x86-64, and runs under the loader and the C library of the
-Rattle kit; on another processor the kit has an emulator for it. This is how `rt`
-runs programs.
-"""
-
-import platform
 import subprocess
 import sys
 from pathlib import Path
 
+RUN_PROGRAM = Path(__file__).resolve().parent.parent / "run_program"
 ELF, X86_64 = b"\x7fELF", 62
 
 
 def command(program):
     """The words that start a program. What is not for x86-64 is started as it is."""
+    if not is_for_x86_64(program):
+        return [str(program)]
+    said = subprocess.run([RUN_PROGRAM, "--words", program], capture_output=True, text=True)
+    if said.returncode != 0:
+        sys.exit(f"{RUN_PROGRAM} does not say how {program} is started: {said.stderr}")
+    return said.stdout.splitlines()
+
+
+def is_for_x86_64(program):
     with open(program, "rb") as file:
         head = file.read(20)
-    if head[:4] != ELF or int.from_bytes(head[18:20], "little") != X86_64:
-        return [str(program)]
-    tools = toolchain()
-    loader = [tools / "lib" / "ld-linux-x86-64.so.2", "--library-path", tools / "lib", program]
-    emulator = tools / "bin" / "qemu-x86_64"
-    words = [emulator, *loader] if emulator.exists() else loader
-    return [str(word) for word in words]
-
-
-def toolchain():
-    """The kit's folder for this machine. The guide that `rt doc` names is in KIT/docs."""
-    try:
-        said = subprocess.run(["rt", "doc"], capture_output=True, text=True, check=True)
-    except (OSError, subprocess.CalledProcessError):
-        sys.exit("`rt doc` does not say where the kit is")
-    kit = Path(said.stdout.split("\n")[0]).parents[1]
-    return kit / "on" / platform.machine() / "toolchain"
+    return head[:4] == ELF and int.from_bytes(head[18:20], "little") == X86_64

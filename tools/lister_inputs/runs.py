@@ -35,16 +35,6 @@ def fault_of_run(words, sheet, expected):
     return None
 
 
-def hold_example(words, path):
-    """A sheet of examples/ against the listing beside it."""
-    sheet, expected = path.read_bytes(), path.with_suffix(".listing").read_bytes().decode()
-    if listing(sheet) != expected:
-        sys.exit(f"{path}: the rules do not give its listing")
-    fault = fault_of_run(words, sheet, expected)
-    if fault is not None:
-        sys.exit(f"{path}: {fault}")
-
-
 def hold_input(words, sheet):
     """The label of what the rules give, and the fault of the run if there is one."""
     expected = listing(sheet)
@@ -73,14 +63,10 @@ def hold_inputs(home, words, count, seed):
 
 
 def hold_all(home, program, count, seed):
-    """The examples, then the inputs; tells what was held."""
+    """Holds the program to the rules on so many inputs, and tells what they were."""
     if not Path(program).is_file():
         sys.exit(f"there is no program {program}")
     words = command(Path(program).resolve())
-    examples = sorted((home / "examples").glob("*.sheet"))
-    for path in examples:
-        hold_example(words, path)
-    print(f"{len(examples)} examples hold", flush=True)
     counts = hold_inputs(home, words, count, seed)
     print(f"{counts.total()} inputs of seed {seed} hold")
     for what, times in sorted(counts.items()):

@@ -2,11 +2,14 @@
 
 import re
 
-from rules import BLOCK, MOST_BLOCKS
+from sheet_blocks import BLOCK
+from stored_sheets.rules.groups import (
+    COND, HEADER, LENGTH, REFUSALS_OF_SHEETS, ROOM, SHEET, refusal_name)
+from stored_sheets.rules.limits import MOST_BLOCKS
 
 MOST_BYTES_OF_SHEET = MOST_BLOCKS * BLOCK
 # The bytes of the template's buffer.
-ROOM = 8_192
+ROOM_OF_TEMPLATE = 8_192
 
 NUMBER = r"(?:0|[1-9][0-9]{0,19})"
 NAME = r"[!-~]{1,64}"
@@ -22,11 +25,14 @@ LISTING = re.compile(
     rf"(?:length (?:payload|packet)_len (?:undefined|{NAME} {NUMBER})\n)?"
     rf"(?:cond {NAME}(?: {NUMBER} {NUMBER}){{0,24}}\n){{0,8}}")
 
-# The refusals that the lister can give, and those whose place is the block count.
-REFUSALS = {"sheet": (1, 2, 3, 4, 5, 6), "field": (1, 2, 3, 4, 5, 6, 7),
-            "header": (1, 2, 3, 4, 5, 6), "length": (1, 3, 4, 5, 6, 7, 8, 9, 10, 12),
-            "cond": (1, 2, 4, 6, 7, 8), "room": (1,)}
-OF_THE_SHEET = (("header", 6), ("length", 1), ("cond", 8), ("room", 1))
+# The refusals that the lister can give: all of them, the one without a place, and those
+# whose place is the block count.
+REFUSALS = {refusal_name(group, number)
+            for group, numbers in (*REFUSALS_OF_SHEETS.items(), (ROOM, (1,)))
+            for number in numbers}
+WITHOUT_PLACE = refusal_name(SHEET, 1)
+OF_THE_WHOLE_SHEET = {refusal_name(group, number) for group, number in (
+    (HEADER, 6), (LENGTH, 1), (COND, 8), (ROOM, 1))}
 
 
 def label(text):
@@ -42,21 +48,21 @@ def fault_of(output, size):
     text = output.decode()
     found = REFUSED.fullmatch(text)
     if found:
-        return refusal_fault(found[1], int(found[2]), int(found[3]), size)
+        return refusal_fault(f"{found[1]} {found[2]}", int(found[3]), size)
     if size % BLOCK != 0 or size > MOST_BYTES_OF_SHEET:
         return "no refusal of what is no sheet by its length"
     found = LISTING.fullmatch(text)
     return listing_fault(**found.groupdict()) if found else "no known shape"
 
 
-def refusal_fault(group, number, place, size):
-    """The group, the number and the place are such as there can be."""
+def refusal_fault(refusal, place, size):
+    """The group and number of a refusal, and its place, are such as there can be."""
     count = size // BLOCK
-    if number not in REFUSALS.get(group, ()):
+    if refusal not in REFUSALS:
         return "an unknown refusal"
-    if (group, number) == ("sheet", 1):
-        return None if place == 0 else "sheet 1 with a place"
-    if (group, number) in OF_THE_SHEET:
+    if refusal == WITHOUT_PLACE:
+        return None if place == 0 else "a place where there is none"
+    if refusal in OF_THE_WHOLE_SHEET:
         return None if place == count else "a place that is not the block count"
     return None if place < count else "a place that is no block"
 
@@ -68,7 +74,7 @@ def listing_fault(header, fields, template):
         if int(told) != index or 8 * int(byte) + int(bit) != end:
             return f"field {index} out of its place"
         end += int(width)
-    if end != 8 * int(header) or int(header) > ROOM:
+    if end != 8 * int(header) or int(header) > ROOM_OF_TEMPLATE:
         return "fields that do not fill the header, or too long a header"
     if len(template or "") != 2 * int(header):
         return "a template that is not as long as the header"

@@ -24,9 +24,8 @@ import os
 import sys
 from pathlib import Path
 
-TOOLS = Path(__file__).resolve().parent.parent
 # The folder of the tools, for what they share.
-sys.path.append(str(TOOLS))
+sys.path.append(str(Path(__file__).resolve().parent.parent))
 
 from tables import sheet_of
 from words import Wrong
@@ -64,8 +63,7 @@ def make(table, path):
 
 
 def check():
-    # Only the tests need the rules of step 1, which stand with the stored sheets.
-    sys.path.append(str(TOOLS / "stored_sheets"))
+    # Only the tests need the stored sheets, for the rules of step 1.
     from table_tests import check_tables
     check_tables()
 

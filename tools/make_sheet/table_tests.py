@@ -7,11 +7,12 @@ import sys
 import tempfile
 from pathlib import Path
 
-from blocks import lister_sheet, rfc_791_sheet
-from rules import ACCEPTED, step_1
 from sheet_blocks import (
     ADD, BOOL, BYTES, CODE, DIVIDE, MULTIPLY, NUMBER, SLICE, SUBTRACT, THE_FIELD, TRUTH, U8,
     U16, U32, U64, VALUE, condition, field, length, tree)
+from stored_sheets.cases.known_sheets import lister_sheet, rfc_791_sheet
+from stored_sheets.rules.groups import ACCEPTED
+from stored_sheets.rules.sheets import step_1
 from tables import sheet_of
 from words import Wrong
 
@@ -253,14 +254,13 @@ def check_chance():
     assert good > 100
 
 
-def check_examples():
-    """The sheets beside the tables are made of them. Two are known from the stored sheets."""
-    tables = sorted(EXAMPLES.glob("*.table"))
-    made = {path.stem: sheet_of(path.read_bytes()) for path in tables}
-    for path in tables:
-        assert made[path.stem] == path.with_suffix(".sheet").read_bytes(), path
-    assert made["scope"] == b"".join(lister_sheet())
-    assert made["rfc791"] == b"".join(rfc_791_sheet()) + condition(b"version", [(1, 1, 4, 4)])
+def check_known_examples():
+    """Two of the examples are known from the stored sheets."""
+    version_4 = condition(b"version", [(1, 1, 4, 4)])
+    for name, blocks in (("three_bytes", lister_sheet()),
+                         ("rfc791", [*rfc_791_sheet(), version_4])):
+        table = EXAMPLES / f"{name}.table"
+        assert sheet_of(table.read_bytes()) == b"".join(blocks), table
 
 
 def run(*arguments):
@@ -299,6 +299,6 @@ def check_tables():
     check_lines()
     check_faults()
     check_chance()
-    check_examples()
+    check_known_examples()
     check_files()
     print(f"{len(BY_HAND) + len(LINES)} lines and {len(FAULTS)} faults hold")

@@ -3,10 +3,10 @@
 The program holds a list of sheets, each with the answer that steps 1 (sheet
 1 to 6), 2 (field 1 to 7), 3 (header 1 to 6), 4 (length 1, 3 to 10 and 12) and
 5 (cond 1, 2, 4, 6, 7 and 8) must give, and writes them to one file, which is
-kept as crates/stored/data/sheets. To a second file, which is kept as
-crates/accesses/data/accesses, it writes reads and writes of fields (access 1 to
-5), each with its answer and the bytes after it. It states the rules by itself
-and takes nothing from the crates.
+kept as crates/test_stored/data/sheets. To a second file, which is kept as
+crates/test_accesses/data/accesses, it writes reads and writes of fields (access
+1 to 5), each with its answer and the bytes after it. It states the rules by
+itself and takes nothing from the crates.
 
     python3 tools/stored_sheets OUTFILE              writes the file of sheets
     python3 tools/stored_sheets --accesses OUTFILE   writes that of reads and writes
@@ -14,10 +14,14 @@ and takes nothing from the crates.
     python3 tools/stored_sheets --show-access R N    prints operation N of record R
     python3 tools/stored_sheets --check              tests the program itself
 
-How the list of sheets is made. `answer` goes over the rules, which are stated
-once, in their order. The cases state them again: each has its answer written
-beside it. The program stops where the two differ. A case has one of these
-sources:
+    rules/   the rules, stated once, in the order of docs/RULES.md
+    cases/   the sheets with their answers, and the operations on fields
+    tests/   the tests of the program itself
+    wrong/   wrong rules, each of which the tests have to notice
+
+How the list of sheets is made. `answer` goes over the rules. The cases state
+them again: each has its answer written beside it. The program stops where the
+two differ. A case has one of these sources:
 
     hand      the answer is written beside the case
     table     the answer is read from a table written by hand
@@ -40,9 +44,10 @@ by then, the default's can be too.
 
 The list is the same on every run. It takes no clock and no outside chance.
 
-The answer is group, number, place. Group 1 is sheet, 2 is field, 3 is
-header, 4 is length, 5 is cond. 0 0 0 is a sheet that passes the five steps,
-and so is accepted.
+The answer is group, number, place. The groups are numbered as in
+include/pktfmt.h: 3 is sheet, 4 is field, 5 is header, 6 is length, 7 is cond
+and 10 is access. 0 0 0 is a sheet that passes the five steps, and so is
+accepted, or a read or write that is.
 
 The file of sheets is a sequence of records. All numbers are big-endian.
 
@@ -93,9 +98,10 @@ The file of reads and writes is a sequence of records too, each a sheet and
 operations on its fields, each operation on a new buffer. All numbers are
 big-endian.
 
+    2  P, length of the packed sheet
     2  S, length of the sheet
     2  N, number of operations
-    S  the sheet as it is, not packed
+    P  the packed sheet, as in the file of sheets
        then the operations:
     1  what: 0 read a number, 1 read bytes, 2 write a number, 3 write bytes
     1  field index
@@ -105,7 +111,7 @@ big-endian.
     8  the number that is written or that an accepted read gives, else 0
     2  C, count of the bytes that are written or that an accepted read gives,
        else 0
-    1  group of the answer, as above, and 7 for access
+    1  group of the answer
     1  number of the refusal, 0 where accepted
     1  place of the refusal, 0 where accepted
     2  offset of the first byte of the buffer that differs after the operation,
@@ -133,30 +139,34 @@ the file small, fillings 0 and 1 of the shorter buffer where a sheet has over
 longer buffer. A refused sheet has all four operations for the indexes 0 and
 200 in mixed buffers of 40 bytes.
 
-These answers come from access.py alone. The tests hold it against operations
-whose outcome is stated, and each operation of the file against a second form
-that goes over single bits.
+These answers come from rules/accesses.py alone. The tests hold it against
+operations whose outcome is stated, and each operation of the file against a
+second form that goes over single bits.
 """
 
 import sys
 from collections import Counter
 from pathlib import Path
 
-# The folder of the tools, for what they share.
+# The folder of the tools: this one is the package stored_sheets there.
 sys.path.append(str(Path(__file__).resolve().parent.parent))
 
-from access import carried_out, opened
-from accesses import access_record, all_accesses
-from answers import answer, facts
-from packing import RUN
-from records import all_cases, answer_name, record
-from rules import ACCEPTED, blocks_of
-from selftest import check
+from stored_sheets.access_records import access_record
+from stored_sheets.cases.access_operations import all_accesses
+from stored_sheets.cases.all_cases import all_cases
+from stored_sheets.facts import facts
+from stored_sheets.packing import RUN
+from stored_sheets.rules.accesses import carried_out, opened
+from stored_sheets.rules.answers import answer
+from stored_sheets.rules.blocks import blocks_of
+from stored_sheets.rules.groups import ACCEPTED, answer_name
+from stored_sheets.sheet_records import sheet_record
+from stored_sheets.tests.all_tests import check
 
 
 def write(path):
     cases = all_cases()
-    content = b"".join(record(case) for case in cases)
+    content = b"".join(sheet_record(case) for case in cases)
     with open(path, "wb") as file:
         file.write(content)
     print(f"{len(cases)} cases")

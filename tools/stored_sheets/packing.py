@@ -19,12 +19,3 @@ def packed(plain):
             out += struct.pack(">HB", start - done, len(part)) + part
             done = start + len(part)
     return out
-
-
-def unpacked(pack, size):
-    out, at = bytearray(), 0
-    while at < len(pack):
-        gap, count = struct.unpack_from(">HB", pack, at)
-        out += bytes(gap) + pack[at + 3:at + 3 + count]
-        at += 3 + count
-    return bytes(out.ljust(size, b"\0"))

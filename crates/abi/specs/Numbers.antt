@@ -6,21 +6,22 @@ use Prim.Native.Nat.{ℕ, _/_}
 use lib.Dec.{eqb}
 use lib.ListN.{length, getD}
 use Rattle.answer.specs.Paper.{Answer, gives, _andThen_}
+use Rattle.answer.specs.Walk.{orZero}
 use Rattle.layout.specs.Layout.{fill}
 use Rattle.layout.specs.Access.{Value, number, bytes, after}
 use Rattle.header.specs.declared.Header.{Header}
 use Rattle.header.specs.Names.{nameAt, fieldNamed}
-use Rattle.header.specs.Places.{layoutOf}
+use Rattle.header.specs.Starts.{headerLayout}
 use Rattle.expr.specs.declared.UsableAlgExpr.{UsableAlgExpr}
 use Rattle.expr.specs.Forms.{forward, back}
 use Rattle.slots.specs.declared.LengthField.{LengthField}
-use Rattle.slots.specs.Slots.{lengthField, placeOf, blockOfSlot}
+use Rattle.slots.specs.Slots.{lengthField, blockOfSlot}
 use Rattle.length.specs.Step.{largestLength}
 use Rattle.definition.specs.Definition.{definitionCheck}
 use Rattle.template.specs.Template.{templateCheck}
-use Rattle.place.specs.declared.Held.{Held}
-use Rattle.place.specs.declared.Place.{Place}
-use Rattle.place.specs.Place.{firstBit, bitsIn, headerIn, defaultIn}
+use Rattle.locator.specs.declared.Held.{Held}
+use Rattle.locator.specs.declared.Locator.{Locator}
+use Rattle.locator.specs.Locator.{firstBit, locatorWidth, locatorHeader, heldDefault}
 
 -- ---- a header: how many fields, and how many bytes
 
@@ -30,24 +31,24 @@ headerNumbers h = h .fields ∷ h .len .0 ∷ []
 -- ---- the buffer after the template: the template in front, or nothing changed
 
 abbrev pub templateAfter : List ℕ → List ℕ → List ℕ
-templateAfter s b = after (templateCheck s (length b)) (fill (layoutOf s) b) b
+templateAfter s b = after (templateCheck s (length b)) (fill (headerLayout s) b) b
 
--- ---- the place of a field: its index, the header's bytes, its first bit, its bits, what it holds, and its default (0 for bytes)
+-- ---- the locator of a field: its index, the header's bytes, its first bit, its bits, what it holds, and its default (0 for bytes)
 
 -- 0 a number, 1 a number that is fixed to its default, 2 bytes
 abbrev pub heldNumber : Held → ℕ
 heldNumber (Held.Number default fixed) = cond fixed 1 0
 heldNumber Held.Bytes = 2
 
-abbrev pub placeNumbers : Place → List ℕ
-placeNumbers p = p .index ∷ headerIn p ∷ firstBit p ∷ bitsIn p ∷ heldNumber (p .held) ∷ defaultIn (p .held) ∷ []
+abbrev pub locatorNumbers : Locator → List ℕ
+locatorNumbers p = p .index ∷ locatorHeader p ∷ firstBit p ∷ locatorWidth p ∷ heldNumber (p .held) ∷ heldDefault (p .held) ∷ []
 
--- the place of six numbers; one that is missing is 0, and any number but 0 and 1 stands for bytes
+-- the locator of six numbers; one that is missing is 0, and any number but 0 and 1 stands for bytes
 unfoldable pub heldFrom : ℕ → ℕ → Held
 heldFrom held default = cond (eqb held 0) (Held.Number default false) (cond (eqb held 1) (Held.Number default true) Held.Bytes)
 
-abbrev pub placeFrom : List ℕ → Place
-placeFrom l = record {
+abbrev pub locatorFrom : List ℕ → Locator
+locatorFrom l = record {
   index = getD l 0 0;
   header = record { 0 = getD l 1 0 };
   start = record { global = record { 0 = getD l 2 0 } };
@@ -55,14 +56,14 @@ placeFrom l = record {
   held = heldFrom (getD l 4 0) (getD l 5 0);
 }
 
--- ---- what is read at a place: a number itself; of bytes the index of the first, and how many they are
+-- ---- what is read at a locator: a number itself; of bytes the index of the first, and how many they are
 
 abbrev pub valueNumbers : Value → List ℕ
 valueNumbers (number v) = v ∷ []
 valueNumbers (bytes l) = []
 
-abbrev pub spanNumbers : Place → Unit {0} → List ℕ
-spanNumbers p _ = firstBit p / 8 ∷ bitsIn p / 8 ∷ []
+abbrev pub spanNumbers : Locator → Unit {0} → List ℕ
+spanNumbers p _ = firstBit p / 8 ∷ locatorWidth p / 8 ∷ []
 
 -- ---- a length slot: what it holds, its two numbers, the index of its field, and the length of the field's largest value; 0 for what it lacks
 
@@ -79,20 +80,16 @@ formNumbers LengthField.Absent = 6 ∷ 0 ∷ 0 ∷ []
 formNumbers LengthField.Undefined = 0 ∷ 0 ∷ 0 ∷ []
 formNumbers (LengthField.Expr e) = exprNumbers e
 
-abbrev pub orZero : Option ℕ → ℕ
-orZero (some n) = n
-orZero none = 0
-
 -- the field of the expression in block `at`
-abbrev pub fieldNumber : List ℕ → ℕ → LengthField → ℕ
-fieldNumber s at LengthField.Absent = 0
-fieldNumber s at LengthField.Undefined = 0
-fieldNumber s at (LengthField.Expr e) = orZero (fieldNamed s (nameAt s at))
+abbrev pub slotFieldNumber : List ℕ → ℕ → LengthField → ℕ
+slotFieldNumber s at LengthField.Absent = 0
+slotFieldNumber s at LengthField.Undefined = 0
+slotFieldNumber s at (LengthField.Expr e) = orZero (fieldNamed s (nameAt s at))
 
 unfoldable pub slotNumbers : List ℕ → ℕ → List ℕ
 slotNumbers s slot =
     let held = lengthField s slot in
-    formNumbers held ++ (fieldNumber s (placeOf (blockOfSlot s slot)) held ∷ orZero (largestLength s slot) ∷ [])
+    formNumbers held ++ (slotFieldNumber s (orZero (blockOfSlot s slot)) held ∷ orZero (largestLength s slot) ∷ [])
 
 abbrev pub slotAnswer : List ℕ → ℕ → Answer (List ℕ)
 slotAnswer s slot = definitionCheck s andThen gives (slotNumbers s slot)
@@ -110,12 +107,12 @@ exprFrom form first second =
     (cond (eqb form 4) (some (UsableAlgExpr.AddMult first second))
     (cond (eqb form 5) (some (UsableAlgExpr.MultAdd first second)) none))))
 
-abbrev pub by : (UsableAlgExpr → ℕ → Option ℕ) → Option UsableAlgExpr → ℕ → Option ℕ
-by work (some e) x = work e x
-by work none x = none
+abbrev pub byForm : (UsableAlgExpr → ℕ → Option ℕ) → Option UsableAlgExpr → ℕ → Option ℕ
+byForm work (some e) x = work e x
+byForm work none x = none
 
 abbrev pub forwardBy : ℕ → ℕ → ℕ → ℕ → Option ℕ
-forwardBy form first second x = by forward (exprFrom form first second) x
+forwardBy form first second x = byForm forward (exprFrom form first second) x
 
 abbrev pub backBy : ℕ → ℕ → ℕ → ℕ → Option ℕ
-backBy form first second y = by back (exprFrom form first second) y
+backBy form first second y = byForm back (exprFrom form first second) y

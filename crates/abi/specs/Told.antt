@@ -1,36 +1,17 @@
 -- How the boundary hands an answer out: numbers at the front of a lent slice. Assumes nothing.
 use mathlib.Core.Path.{_≡_}
-use mathlib.Core.Bool.{Bool, true, false}
+use mathlib.Core.Bool.{Bool}
 use mathlib.Core.List.{List, [], _∷_}
 use mathlib.Core.Option.{Option, none, some}
 use Prim.Native.Nat.{ℕ, _+_}
 use lib.ListN.{set}
-use Rattle.answer.specs.declared.Group.{Group}
-use Rattle.answer.specs.Paper.{Answer, gives, refused}
+use Rattle.answer.specs.Paper.{Answer, gives, refused, isGiven, groupNumber}
+use Rattle.answer.specs.Walk.{isSome}
 
 -- numbers go into a slice one after the other, from an index on; past its end none does, and the rest stays as it was
 unfoldable pub laid : List ℕ → ℕ → List ℕ → List ℕ
 laid [] at b = b
 laid (n ∷ ns) at b = laid ns (at + 1) (set b at n)
-
--- the groups of refusals by number
-abbrev pub groupNumber : Group → ℕ
-groupNumber Group.Number = 1
-groupNumber Group.Type = 2
-groupNumber Group.Sheet = 3
-groupNumber Group.Field = 4
-groupNumber Group.Header = 5
-groupNumber Group.Length = 6
-groupNumber Group.Cond = 7
-groupNumber Group.Position = 8
-groupNumber Group.Bound = 9
-groupNumber Group.Access = 10
-groupNumber Group.Room = 11
-
--- whether an answer is no refusal
-abbrev pub isGiven : {A : Type 0} → Answer A → Bool
-isGiven (gives a) = true
-isGiven (refused g n at) = false
 
 -- what is told: of a value its numbers, of a refusal its group, its number and its place
 abbrev pub toldOf : {A : Type 0} → (A → List ℕ) → Answer A → List ℕ
@@ -48,14 +29,10 @@ pub record Told {A : Type 0} (numbers : A → List ℕ) (answer : Answer A) (b b
 
 -- ---- a number, where there is one
 
-abbrev pub isThere : Option ℕ → Bool
-isThere (some n) = true
-isThere none = false
-
 abbrev pub oneNumber : Option ℕ → List ℕ
 oneNumber (some n) = n ∷ []
 oneNumber none = []
 
 pub record Found (number : Option ℕ) (b b' : List ℕ) (r : Bool) : Type 0 where
-  pub there : r ≡ isThere number
+  pub there : r ≡ isSome number
   pub told : b' ≡ laid (oneNumber number) 0 b

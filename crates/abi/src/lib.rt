@@ -1,38 +1,38 @@
 // The boundary: what C, and whoever calls as C does, links. Numbers and slices go in; an answer is whether there was a refusal, and numbers in a lent slice.
 // include/pktfmt.h declares these functions, and tells what the numbers mean.
-use access::PlaceAnswer;
-use answer::Group;
+use access::LocatorAnswer;
 use answer::Refusal;
 use answer::Verdict;
 use bits::BitPos;
 use expr::Length;
+use expr::MaybeNumber;
 use expr::UsableAlgExpr;
-use expr::Value;
 use header::FieldIndex;
 use header::NewHeader;
+use locator::Held;
+use locator::Locator;
+use locator::NumberAnswer;
 use number::Bits;
 use number::Bytes;
-use place::Held;
-use place::NumberAnswer;
-use place::Place;
 use slots::LengthField;
 use tree::Usable;
 ghost use mathlib.Core.Path.{_≡_};
 ghost use mathlib.Core.Bool.{true, false};
 ghost use mathlib.Core.List.{[], _∷_};
 ghost use lib.ListN.{length, set, getD};
-ghost use Rattle.answer.specs.Paper.{paper, paperOf};
+ghost use Rattle.answer.specs.Paper.{verdictSays, refusalSays};
+ghost use Rattle.answer.specs.Walk.{orZero};
 ghost use Rattle.layout.specs.Access.{number as aNumber, bytes as someBytes};
 ghost use Rattle.header.specs.Names.{nameAt, fieldNamed};
-ghost use Rattle.expr.specs.Forms.{valueOf, lengthOf};
-ghost use Rattle.tree.specs.Tree.{exprOf};
-ghost use Rattle.place.specs.Place.{defaultIn, reachAt, writeCheckAt, readAt, applyAt};
+ghost use Rattle.expr.specs.Forms.{maybeNumberSays, lengthSays};
+ghost use Rattle.tree.specs.Tree.{usableSays};
+ghost use Rattle.locator.specs.Locator.{heldDefault, reachAt, writeCheckAt, readAt, applyAt};
 ghost use Rattle.definition.specs.Definition.{definedHeader};
 ghost use Rattle.template.specs.Template.{templateCheck};
-ghost use Rattle.access.specs.Access.{placeIn};
+ghost use Rattle.access.specs.Access.{locatorIn};
 ghost use Rattle.listing.specs.Listing.{Listed};
-ghost use Rattle.abi.specs.Told.{laid, groupNumber, nothing, Told, Found};
-ghost use Rattle.abi.specs.Numbers.{headerNumbers, templateAfter, heldNumber, placeNumbers, heldFrom, placeFrom, valueNumbers, spanNumbers, exprNumbers, formNumbers, orZero, fieldNumber, slotNumbers, slotAnswer, asTheyAre, exprFrom, forwardBy, backBy};
+ghost use Rattle.abi.specs.Told.{laid, nothing, Told, Found};
+ghost use Rattle.abi.specs.Numbers.{headerNumbers, templateAfter, heldNumber, locatorNumbers, heldFrom, locatorFrom, valueNumbers, spanNumbers, exprNumbers, formNumbers, slotFieldNumber, slotNumbers, slotAnswer, asTheyAre, exprFrom, forwardBy, backBy};
 
 // ---- numbers in a lent slice
 
@@ -54,31 +54,13 @@ fn number_at(numbers: &[u64], at: usize) -> u64
 
 // ---- refusals
 
-fn group_number(group: Group) -> u64
-    ensures { λ r. ⌜ r ≡ groupNumber group ⌝ }
-{
-    match group {
-        Group::Number => 1,
-        Group::Type => 2,
-        Group::Sheet => 3,
-        Group::Field => 4,
-        Group::Header => 5,
-        Group::Length => 6,
-        Group::Cond => 7,
-        Group::Position => 8,
-        Group::Bound => 9,
-        Group::Access => 10,
-        Group::Room => 11,
-    }
-}
-
 // The group, the number and the place of a refusal; false, since it is one.
 fn tell_refusal(answer: &mut [u64], reason: Refusal) -> bool
-    ensures { λ r. ⌜ Told nothing (paperOf reason) (now (answer .entry)) (now (answer .exit)) r ⌝ }
+    ensures { λ r. ⌜ Told nothing (refusalSays reason) (now (answer .entry)) (now (answer .exit)) r ⌝ }
 {
     let paper = reason.on_paper();
     let group = paper.group;
-    tell(answer, 0, group_number(group));
+    tell(answer, 0, group.number() as u64);
     tell(answer, 1, paper.number as u64);
     tell(answer, 2, paper.place as u64);
     false
@@ -86,7 +68,7 @@ fn tell_refusal(answer: &mut [u64], reason: Refusal) -> bool
 
 // What a check tells: nothing, or the refusal.
 fn tell_verdict(answer: &mut [u64], v: Verdict) -> bool
-    ensures { λ r. ⌜ Told nothing (paper v) (now (answer .entry)) (now (answer .exit)) r ⌝ }
+    ensures { λ r. ⌜ Told nothing (verdictSays v) (now (answer .entry)) (now (answer .exit)) r ⌝ }
 {
     match v {
         Verdict::Accepted => true,
@@ -94,7 +76,7 @@ fn tell_verdict(answer: &mut [u64], v: Verdict) -> bool
     }
 }
 
-// ---- places in numbers
+// ---- locators in numbers
 
 fn held_number(held: Held) -> u64
     ensures { λ r. ⌜ r ≡ heldNumber held ⌝ }
@@ -107,7 +89,7 @@ fn held_number(held: Held) -> u64
 
 // The default of a number; 0 for bytes.
 fn default_in(held: Held) -> u64
-    ensures { λ r. ⌜ r ≡ defaultIn held ⌝ }
+    ensures { λ r. ⌜ r ≡ heldDefault held ⌝ }
 {
     match held {
         Held::Number(default, _) => default,
@@ -115,9 +97,9 @@ fn default_in(held: Held) -> u64
     }
 }
 
-// The six numbers of a place.
-fn tell_place(answer: &mut [u64], p: Place)
-    ensures { λ _. ⌜ now (answer .exit) ≡ laid (placeNumbers p) 0 (now (answer .entry)) ⌝ }
+// The six numbers of a locator.
+fn tell_locator(answer: &mut [u64], p: Locator)
+    ensures { λ _. ⌜ now (answer .exit) ≡ laid (locatorNumbers p) 0 (now (answer .entry)) ⌝ }
 {
     let held = p.held;
     tell(answer, 0, p.index as u64);
@@ -138,10 +120,10 @@ fn held_from(held: u64, default: u64) -> Held
     }
 }
 
-fn place_of(index: u64, header: u64, start: u64, width: u64, held: u64, default: u64) -> Place
-    ensures { λ r. ⌜ r ≡ placeFrom (index ∷ header ∷ start ∷ width ∷ held ∷ default ∷ []) ⌝ }
+fn locator_of(index: u64, header: u64, start: u64, width: u64, held: u64, default: u64) -> Locator
+    ensures { λ r. ⌜ r ≡ locatorFrom (index ∷ header ∷ start ∷ width ∷ held ∷ default ∷ []) ⌝ }
 {
-    Place {
+    Locator {
         index: index as usize,
         header: Bytes(header),
         start: BitPos {
@@ -152,12 +134,12 @@ fn place_of(index: u64, header: u64, start: u64, width: u64, held: u64, default:
     }
 }
 
-// The place of six numbers: one test, where there are so many.
-fn place_from(numbers: &[u64]) -> Place
-    ensures { λ r. ⌜ r ≡ placeFrom (now (numbers .entry)) ⌝ }
+// The locator of six numbers: one test, where there are so many.
+fn locator_from(numbers: &[u64]) -> Locator
+    ensures { λ r. ⌜ r ≡ locatorFrom (now (numbers .entry)) ⌝ }
 {
     if 6 <= numbers.len() {
-        return place_of(
+        return locator_of(
             numbers[0],
             numbers[1],
             numbers[2],
@@ -166,7 +148,7 @@ fn place_from(numbers: &[u64]) -> Place
             numbers[5],
         );
     }
-    place_of(
+    locator_of(
         number_at(numbers, 0),
         number_at(numbers, 1),
         number_at(numbers, 2),
@@ -207,7 +189,7 @@ fn slot_form(held: LengthField) -> Form
 fn named_field(sheet: &[u8], i: usize) -> u64
     ensures { λ r. ⌜ r ≡ orZero (fieldNamed (now (sheet .entry)) (nameAt (now (sheet .entry)) i)) ⌝ }
 {
-    match header::field_named(sheet, blocks::name(sheet::block(sheet, i))) {
+    match header::unchecked_field_named(sheet, blocks::name(sheet::block(sheet, i))) {
         FieldIndex::At(k) => k as u64,
         FieldIndex::None => 0,
     }
@@ -215,7 +197,7 @@ fn named_field(sheet: &[u8], i: usize) -> u64
 
 // The field of what a slot holds, from block i; 0 where it holds no expression.
 fn slot_field(sheet: &[u8], i: usize, held: LengthField) -> u64
-    ensures { λ r. ⌜ r ≡ fieldNumber (now (sheet .entry)) i held ⌝ }
+    ensures { λ r. ⌜ r ≡ slotFieldNumber (now (sheet .entry)) i held ⌝ }
 {
     match held {
         LengthField::Absent => 0,
@@ -224,21 +206,21 @@ fn slot_field(sheet: &[u8], i: usize, held: LengthField) -> u64
     }
 }
 
-fn in_value(length: Length) -> Value
-    ensures { λ r. ⌜ valueOf r ≡ lengthOf length ⌝ }
+fn in_value(length: Length) -> MaybeNumber
+    ensures { λ r. ⌜ maybeNumberSays r ≡ lengthSays length ⌝ }
 {
     match length {
-        Length::Is(n) => Value::Is(n.0),
-        Length::None => Value::None,
+        Length::Is(n) => MaybeNumber::Is(n.0),
+        Length::None => MaybeNumber::None,
     }
 }
 
-fn or_zero(v: Value) -> u64
-    ensures { λ r. ⌜ r ≡ orZero (valueOf v) ⌝ }
+fn or_zero(v: MaybeNumber) -> u64
+    ensures { λ r. ⌜ r ≡ orZero (maybeNumberSays v) ⌝ }
 {
     match v {
-        Value::Is(n) => n,
-        Value::None => 0,
+        MaybeNumber::Is(n) => n,
+        MaybeNumber::None => 0,
     }
 }
 
@@ -246,7 +228,7 @@ fn or_zero(v: Value) -> u64
 fn tell_slot(answer: &mut [u64], sheet: &[u8], slot: u8)
     ensures { λ _. ⌜ now (answer .exit) ≡ laid (slotNumbers (now (sheet .entry)) slot) 0 (now (answer .entry)) ⌝ }
 {
-    let says = definition::length_slot(sheet, slot);
+    let says = definition::unchecked_length_slot(sheet, slot);
     let held = says.held;
     let largest = says.largest;
     let form = slot_form(held);
@@ -258,7 +240,7 @@ fn tell_slot(answer: &mut [u64], sheet: &[u8], slot: u8)
 }
 
 fn expr_from(form: u8, first: u64, second: u64) -> Usable
-    ensures { λ r. ⌜ exprOf r ≡ exprFrom form first second ⌝ }
+    ensures { λ r. ⌜ usableSays r ≡ exprFrom form first second ⌝ }
 {
     match form {
         1 => Usable::Expr(UsableAlgExpr::IdentOnly),
@@ -271,15 +253,15 @@ fn expr_from(form: u8, first: u64, second: u64) -> Usable
 }
 
 // A number, if there is one; true where there is.
-fn tell_value(answer: &mut [u64], v: Value) -> bool
-    ensures { λ r. ⌜ Found (valueOf v) (now (answer .entry)) (now (answer .exit)) r ⌝ }
+fn tell_value(answer: &mut [u64], v: MaybeNumber) -> bool
+    ensures { λ r. ⌜ Found (maybeNumberSays v) (now (answer .entry)) (now (answer .exit)) r ⌝ }
 {
     match v {
-        Value::Is(n) => {
+        MaybeNumber::Is(n) => {
             tell(answer, 0, n);
             true
         }
-        Value::None => false,
+        MaybeNumber::None => false,
     }
 }
 
@@ -290,7 +272,7 @@ fn tell_value(answer: &mut [u64], v: Value) -> bool
 pub extern "C" fn pktfmt_check(sheet: &[u8], answer: &mut [u64]) -> bool
     ensures { λ r. ⌜ Told headerNumbers (definedHeader (now (sheet .entry))) (now (answer .entry)) (now (answer .exit)) r ⌝ }
 {
-    match definition::header(sheet) {
+    match definition::checked_header(sheet) {
         NewHeader::Is(h) => {
             let len = h.len;
             tell(answer, 0, h.fields as u64);
@@ -311,17 +293,17 @@ pub extern "C" fn pktfmt_template(sheet: &[u8], buf: &mut [u8], answer: &mut [u6
     tell_verdict(answer, v)
 }
 
-// The place of field i, six numbers; the sheet's own refusal, or access 1.
+// The locator of field i, six numbers; the sheet's own refusal, or access 1.
 #[no_mangle]
 pub extern "C" fn pktfmt_field(sheet: &[u8], i: usize, answer: &mut [u64]) -> bool
-    ensures { λ r. ⌜ Told placeNumbers (placeIn (now (sheet .entry)) i) (now (answer .entry)) (now (answer .exit)) r ⌝ }
+    ensures { λ r. ⌜ Told locatorNumbers (locatorIn (now (sheet .entry)) i) (now (answer .entry)) (now (answer .exit)) r ⌝ }
 {
-    match access::place(sheet, i) {
-        PlaceAnswer::Is(p) => {
-            tell_place(answer, p);
+    match access::locate(sheet, i) {
+        LocatorAnswer::Is(p) => {
+            tell_locator(answer, p);
             true
         }
-        PlaceAnswer::Refused(reason) => tell_refusal(answer, reason),
+        LocatorAnswer::Refused(reason) => tell_refusal(answer, reason),
     }
 }
 
@@ -369,14 +351,14 @@ pub extern "C" fn pktfmt_back(form: u8, first: u64, second: u64, y: u64, answer:
     }
 }
 
-// ---- at a place
+// ---- at a locator
 
-// The number that is held at a place, or access 1 to 3.
+// The number that is held at a locator, or access 1 to 3.
 #[no_mangle]
-pub extern "C" fn pktfmt_read_number(place: &[u64], buf: &[u8], answer: &mut [u64]) -> bool
-    ensures { λ r. ⌜ Told valueNumbers (readAt (placeFrom (now (place .entry))) (now (buf .entry)) false) (now (answer .entry)) (now (answer .exit)) r ⌝ }
+pub extern "C" fn pktfmt_read_number(locator: &[u64], buf: &[u8], answer: &mut [u64]) -> bool
+    ensures { λ r. ⌜ Told valueNumbers (readAt (locatorFrom (now (locator .entry))) (now (buf .entry)) false) (now (answer .entry)) (now (answer .exit)) r ⌝ }
 {
-    match place_from(place).read_number(buf) {
+    match locator_from(locator).read_number(buf) {
         NumberAnswer::Is(v) => {
             tell(answer, 0, v);
             true
@@ -385,12 +367,12 @@ pub extern "C" fn pktfmt_read_number(place: &[u64], buf: &[u8], answer: &mut [u6
     }
 }
 
-// The index of the first of the bytes that are held at a place, and how many they are; or access 1 to 3.
+// The index of the first of the bytes that are held at a locator, and how many they are; or access 1 to 3.
 #[no_mangle]
-pub extern "C" fn pktfmt_read_bytes(place: &[u64], buf: &[u8], answer: &mut [u64]) -> bool
-    ensures { λ r. ⌜ Told (spanNumbers (placeFrom (now (place .entry)))) (reachAt (placeFrom (now (place .entry))) (length (now (buf .entry))) true) (now (answer .entry)) (now (answer .exit)) r ⌝ }
+pub extern "C" fn pktfmt_read_bytes(locator: &[u64], buf: &[u8], answer: &mut [u64]) -> bool
+    ensures { λ r. ⌜ Told (spanNumbers (locatorFrom (now (locator .entry)))) (reachAt (locatorFrom (now (locator .entry))) (length (now (buf .entry))) true) (now (answer .entry)) (now (answer .exit)) r ⌝ }
 {
-    let p = place_from(place);
+    let p = locator_from(locator);
     match p.can_read_bytes(buf) {
         Verdict::Accepted => {
             let start = p.start;
@@ -403,33 +385,33 @@ pub extern "C" fn pktfmt_read_bytes(place: &[u64], buf: &[u8], answer: &mut [u64
     }
 }
 
-// Writes a number at a place, and changes no other bit; or access 1 to 5, and nothing is changed.
+// Writes a number at a locator, and changes no other bit; or access 1 to 5, and nothing is changed.
 #[no_mangle]
 pub extern "C" fn pktfmt_write_number(
-    place: &[u64],
+    locator: &[u64],
     buf: &mut [u8],
     value: u64,
     answer: &mut [u64],
 ) -> bool
-    ensures { λ r. ⌜ Told nothing (writeCheckAt (placeFrom (now (place .entry))) (length (now (buf .entry))) (aNumber value)) (now (answer .entry)) (now (answer .exit)) r ⌝ }
-    ensures { λ _. ⌜ now (buf .exit) ≡ applyAt (placeFrom (now (place .entry))) (now (buf .entry)) (aNumber value) ⌝ }
+    ensures { λ r. ⌜ Told nothing (writeCheckAt (locatorFrom (now (locator .entry))) (length (now (buf .entry))) (aNumber value)) (now (answer .entry)) (now (answer .exit)) r ⌝ }
+    ensures { λ _. ⌜ now (buf .exit) ≡ applyAt (locatorFrom (now (locator .entry))) (now (buf .entry)) (aNumber value) ⌝ }
 {
-    let v = place_from(place).write_number(buf, value);
+    let v = locator_from(locator).write_number(buf, value);
     tell_verdict(answer, v)
 }
 
-// Writes bytes at a place, and changes no other bit; or access 1 to 4, and nothing is changed.
+// Writes bytes at a locator, and changes no other bit; or access 1 to 4, and nothing is changed.
 #[no_mangle]
 pub extern "C" fn pktfmt_write_bytes(
-    place: &[u64],
+    locator: &[u64],
     buf: &mut [u8],
     bytes: &[u8],
     answer: &mut [u64],
 ) -> bool
-    ensures { λ r. ⌜ Told nothing (writeCheckAt (placeFrom (now (place .entry))) (length (now (buf .entry))) (someBytes (now (bytes .entry)))) (now (answer .entry)) (now (answer .exit)) r ⌝ }
-    ensures { λ _. ⌜ now (buf .exit) ≡ applyAt (placeFrom (now (place .entry))) (now (buf .entry)) (someBytes (now (bytes .entry))) ⌝ }
+    ensures { λ r. ⌜ Told nothing (writeCheckAt (locatorFrom (now (locator .entry))) (length (now (buf .entry))) (someBytes (now (bytes .entry)))) (now (answer .entry)) (now (answer .exit)) r ⌝ }
+    ensures { λ _. ⌜ now (buf .exit) ≡ applyAt (locatorFrom (now (locator .entry))) (now (buf .entry)) (someBytes (now (bytes .entry))) ⌝ }
 {
-    let v = place_from(place).write_bytes(buf, bytes);
+    let v = locator_from(locator).write_bytes(buf, bytes);
     tell_verdict(answer, v)
 }
 

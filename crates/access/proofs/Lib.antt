@@ -1,2 +1,2 @@
-pub mod Places
-pub mod Laws
+pub mod Locators
+pub mod BySheet

@@ -1,37 +1,37 @@
-// Reading and writing the fields of a header by its sheet: the sheet's own refusal comes first, then access 1 to 5. Each entry works the field's place out
-// of the sheet and goes there; a caller with many buffers keeps the place.
+// Reading and writing the fields of a header by its sheet: the sheet's own refusal comes first, then access 1 to 5. Each entry works the field's
+// locator out of the sheet and goes there; a caller with many buffers keeps the locator.
 use answer::AccessFault;
 use answer::Refusal;
 use answer::Verdict;
-use definition::PlacedField;
+use definition::FieldWithStart;
 use field::DefaultVal;
 use field::Field;
 use header::NewHeader;
+use locator::Held;
+use locator::Locator;
+use locator::NumberAnswer;
 use number::Bytes;
-use place::Held;
-use place::NumberAnswer;
-use place::Place;
 ghost use mathlib.Core.Path.{_≡_};
 ghost use mathlib.Core.Bool.{true, false};
 ghost use lib.ListN.{length};
-ghost use Rattle.answer.specs.Paper.{paper};
+ghost use Rattle.answer.specs.Paper.{verdictSays};
 ghost use Rattle.types.specs.Types.{isSlice};
 ghost use Rattle.layout.specs.Access.{number as aNumber, bytes as someBytes, write};
 ghost use Rattle.header.specs.Step.{headerBytes};
 ghost use Rattle.definition.specs.Definition.{Accepted};
-ghost use Rattle.place.specs.Place.{numberIn, partOf};
-ghost use Rattle.access.specs.Access.{sheetReach, sheetRead, Written, numberOf, heldOf, placeIn, placeAnswer};
+ghost use Rattle.locator.specs.Locator.{numberAnswerSays, partOf};
+ghost use Rattle.access.specs.Access.{sheetReach, sheetRead, SheetWritten, defaultOrZero, heldOf, locatorIn, locatorAnswerSays};
 
-pub enum PlaceAnswer {
-    Is(Place),
+pub enum LocatorAnswer {
+    Is(Locator),
     Refused(Refusal),
 }
 
-// ---- the place of a field
+// ---- the locator of a field
 
 // The default of a number field.
-fn number_of(default: DefaultVal) -> u64
-    ensures { λ r. ⌜ r ≡ numberOf default ⌝ }
+fn default_or_zero(default: DefaultVal) -> u64
+    ensures { λ r. ⌜ r ≡ defaultOrZero default ⌝ }
 {
     match default {
         DefaultVal::Num(n) => n,
@@ -48,20 +48,23 @@ fn held_of(f: Field) -> Held
     if repr.is_slice() {
         return Held::Bytes;
     }
-    Held::Number(number_of(default), f.fixed)
+    Held::Number(default_or_zero(default), f.fixed)
 }
 
-// The place of field i of an accepted sheet, whose header has so many bytes; or access 1.
-fn place_of(s: &[u8], i: usize, header: Bytes) -> PlaceAnswer
+// The locator of field i of an accepted sheet, whose header has so many bytes; or access 1.
+fn locator_of(s: &[u8], i: usize, header: Bytes) -> LocatorAnswer
     requires { ⌜ Accepted (now s) ⌝ }
     requires { ⌜ header .0 ≡ headerBytes (now s) ⌝ }
-    ensures { λ r. ⌜ placeAnswer r ≡ placeIn (now (s .entry)) i ⌝ }
+    ensures { λ r. ⌜ locatorAnswerSays r ≡ locatorIn (now (s .entry)) i ⌝ }
 {
-    match definition::field(s, i) {
-        PlacedField::None => PlaceAnswer::Refused(Refusal::Access(AccessFault::NoSuchField, i)),
-        PlacedField::At(f, start) => {
-            let width = f.bit;
-            PlaceAnswer::Is(Place {
+    match definition::unchecked_field(s, i) {
+        FieldWithStart::None => LocatorAnswer::Refused(Refusal::Access(
+            AccessFault::NoSuchField,
+            i,
+        )),
+        FieldWithStart::Is(f, start) => {
+            let width = f.width;
+            LocatorAnswer::Is(Locator {
                 index: i,
                 header,
                 start,
@@ -72,13 +75,13 @@ fn place_of(s: &[u8], i: usize, header: Bytes) -> PlaceAnswer
     }
 }
 
-// The place of field i, the sheet's own refusal, or access 1.
-pub fn place(s: &[u8], i: usize) -> PlaceAnswer
-    ensures { λ r. ⌜ placeAnswer r ≡ placeIn (now (s .entry)) i ⌝ }
+// The locator of field i, the sheet's own refusal, or access 1.
+pub fn locate(s: &[u8], i: usize) -> LocatorAnswer
+    ensures { λ r. ⌜ locatorAnswerSays r ≡ locatorIn (now (s .entry)) i ⌝ }
 {
-    match definition::header(s) {
-        NewHeader::Refused(reason) => PlaceAnswer::Refused(reason),
-        NewHeader::Is(h) => place_of(s, i, h.len),
+    match definition::checked_header(s) {
+        NewHeader::Refused(reason) => LocatorAnswer::Refused(reason),
+        NewHeader::Is(h) => locator_of(s, i, h.len),
     }
 }
 
@@ -86,11 +89,11 @@ pub fn place(s: &[u8], i: usize) -> PlaceAnswer
 
 // The number that field i holds, or the refusal.
 pub fn read_number(s: &[u8], buf: &[u8], i: usize) -> NumberAnswer
-    ensures { λ r. ⌜ numberIn r ≡ sheetRead (now (s .entry)) (now (buf .entry)) false i ⌝ }
+    ensures { λ r. ⌜ numberAnswerSays r ≡ sheetRead (now (s .entry)) (now (buf .entry)) false i ⌝ }
 {
-    match place(s, i) {
-        PlaceAnswer::Is(p) => p.read_number(buf),
-        PlaceAnswer::Refused(reason) => NumberAnswer::Refused(reason),
+    match locate(s, i) {
+        LocatorAnswer::Is(p) => p.read_number(buf),
+        LocatorAnswer::Refused(reason) => NumberAnswer::Refused(reason),
     }
 }
 
@@ -98,19 +101,19 @@ pub fn read_number(s: &[u8], buf: &[u8], i: usize) -> NumberAnswer
 pub fn read_bytes<'a>(s: &[u8], buf: &'a [u8], i: usize) -> &'a [u8]
     ensures { λ r. ⌜ now r ≡ partOf (sheetRead (now (s .entry)) (now (buf .entry)) true i) ⌝ }
 {
-    match place(s, i) {
-        PlaceAnswer::Is(p) => p.read_bytes(buf),
-        PlaceAnswer::Refused(_) => &buf[..0],
+    match locate(s, i) {
+        LocatorAnswer::Is(p) => p.read_bytes(buf),
+        LocatorAnswer::Refused(_) => &buf[..0],
     }
 }
 
 // Whether field i can be read as bytes, or the refusal.
 pub fn can_read_bytes(s: &[u8], buf: &[u8], i: usize) -> Verdict
-    ensures { λ r. ⌜ paper r ≡ sheetReach (now (s .entry)) (length (now (buf .entry))) true i ⌝ }
+    ensures { λ r. ⌜ verdictSays r ≡ sheetReach (now (s .entry)) (length (now (buf .entry))) true i ⌝ }
 {
-    match place(s, i) {
-        PlaceAnswer::Is(p) => p.can_read_bytes(buf),
-        PlaceAnswer::Refused(reason) => Verdict::Refused(reason),
+    match locate(s, i) {
+        LocatorAnswer::Is(p) => p.can_read_bytes(buf),
+        LocatorAnswer::Refused(reason) => Verdict::Refused(reason),
     }
 }
 
@@ -118,20 +121,20 @@ pub fn can_read_bytes(s: &[u8], buf: &[u8], i: usize) -> Verdict
 
 // Writes a number to field i, and changes no other bit; or the refusal, and nothing is changed.
 pub fn write_number(s: &[u8], buf: &mut [u8], i: usize, v: u64) -> Verdict
-    ensures { λ r. ⌜ Written (now (s .entry)) (now (buf .entry)) (now (buf .exit)) (write i (aNumber v)) r ⌝ }
+    ensures { λ r. ⌜ SheetWritten (now (s .entry)) (now (buf .entry)) (now (buf .exit)) (write i (aNumber v)) r ⌝ }
 {
-    match place(s, i) {
-        PlaceAnswer::Is(p) => p.write_number(buf, v),
-        PlaceAnswer::Refused(reason) => Verdict::Refused(reason),
+    match locate(s, i) {
+        LocatorAnswer::Is(p) => p.write_number(buf, v),
+        LocatorAnswer::Refused(reason) => Verdict::Refused(reason),
     }
 }
 
 // Writes bytes to field i, and changes no other bit; or the refusal, and nothing is changed.
 pub fn write_bytes(s: &[u8], buf: &mut [u8], i: usize, bytes: &[u8]) -> Verdict
-    ensures { λ r. ⌜ Written (now (s .entry)) (now (buf .entry)) (now (buf .exit)) (write i (someBytes (now (bytes .entry)))) r ⌝ }
+    ensures { λ r. ⌜ SheetWritten (now (s .entry)) (now (buf .entry)) (now (buf .exit)) (write i (someBytes (now (bytes .entry)))) r ⌝ }
 {
-    match place(s, i) {
-        PlaceAnswer::Is(p) => p.write_bytes(buf, bytes),
-        PlaceAnswer::Refused(reason) => Verdict::Refused(reason),
+    match locate(s, i) {
+        LocatorAnswer::Is(p) => p.write_bytes(buf, bytes),
+        LocatorAnswer::Refused(reason) => Verdict::Refused(reason),
     }
 }

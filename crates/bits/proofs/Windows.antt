@@ -19,11 +19,12 @@ use Rattle.bits.specs.declared.NumberWrite.{NumberWrite}
 use Rattle.bits.specs.declared.BytesWrite.{BytesWrite}
 use Rattle.bits.specs.Bits.{bit, num, value, touched}
 use Rattle.bits.specs.Writes.{newBit, put}
-use Rattle.bits.specs.Runs.{fitOf, readAs, readNumber, writeAs, writeAnswer, holdsBytes, bytesAt, bytesAnswer, BytesWritten, pasted}
+use Rattle.bits.specs.Runs.{fitOf, readAs, readNumber, writeAs, writeAnswer, holdsBytes, bytesAt, bytesAnswer, BytesWritten}
 use Rattle.bits.proofs.Num.{num-ext, num-digits, num-split, num-first, num-at}
 use Rattle.bits.proofs.Bits.{bit-same, value-lt, value-byte, value-be}
 use Rattle.bits.proofs.Put.{by-run, new-before, new-in, new-after, new-lt, put-ext, put-length, put-bytes}
-use Rattle.bits.proofs.Laws.{side-by-side, write-read, wrote-put}
+use Rattle.bits.proofs.Writes.{side-by-side, write-read, wrote-put}
+use Rattle.bits.specs.Working.{pasted}
 
 -- ---- a field of a number of 64 bits
 
@@ -59,15 +60,7 @@ module _ (x w r v : ℕ) (fits : w + r ≤ 64) (x-fits : x < 2 ^ 64) (small : v 
   new-shl : (v * 2 ^ r) % 2 ^ 64 ≡ v * 2 ^ r
   new-shl = shl-exact w r 64 small fits
 
-  pub paste-le : (x / 2 ^ r % 2 ^ w * 2 ^ r) % 2 ^ 64 ≤ x
-  unfolding old
-  paste-le = omega (arith, parts, old-shl)
-
-  pub paste-is : x - (x / 2 ^ r % 2 ^ w * 2 ^ r) % 2 ^ 64 + (v * 2 ^ r) % 2 ^ 64 ≡ pasted x w r v
-  unfolding old
-  paste-is = omega (arith, parts, old-shl, new-shl, add-mul (x / 2 ^ r / 2 ^ w * 2 ^ w) v (2 ^ r))
-
-  pub paste-lt : pasted x w r v < 2 ^ 64
+  paste-lt : pasted x w r v < 2 ^ 64
   paste-lt =
       let h = 64 - (w + r) in
       let all : h + w + r ≡ 64 = omega arith in
@@ -75,6 +68,11 @@ module _ (x w r v : ℕ) (fits : w + r ≤ 64) (x-fits : x < 2 ^ 64) (small : v 
       let hi : x / 2 ^ r / 2 ^ w < 2 ^ h = rw (shr-shr x r w) (shr-lt h (r + w) (rw above x-fits)) in
       subst (λ (n : ℕ). pasted x w r v < 2 ^ n) all
       (rw (pow-add 2 (h + w) r, pow-add 2 h w) (digits-lt (digits-lt hi small) (mod-lt x (pow-pos r))))
+
+  -- the steps, as the program has them: what they come to, and that none passes 64 bits
+  pub pasting : {o : ℕ} → o ≡ x / 2 ^ r % 2 ^ w → ((o * 2 ^ r) % 2 ^ 64 ≤ x) × (x - (o * 2 ^ r) % 2 ^ 64 + (v * 2 ^ r) % 2 ^ 64 ≡ pasted x w r v) × (pasted x w r v < 2 ^ 64)
+  unfolding old
+  pasting e = rw e (omega (arith, parts, old-shl), omega (arith, parts, old-shl, new-shl, add-mul (x / 2 ^ r / 2 ^ w * 2 ^ w) v (2 ^ r)), paste-lt)
 
 -- nothing is pasted into no bits
 pub paste-none : (x w r v : ℕ) → w ≡ 0 → v < 2 ^ w → x ≡ pasted x w r v
@@ -133,8 +131,7 @@ pub put-wider : (b : List ℕ) (s w v t x : ℕ) → t ≤ s → s + w ≤ t + x
 put-wider b s w v t x l m =
     put-ext b b t x all s w v refl (λ k h. by-run t x k
     (λ i. new-before b t x all k i ∙ sym (new-before b s w v k (omega arith)))
-    (λ j i e.
-    subst (λ (n : ℕ). newBit b t x all n ≡ newBit b s w v n) e (new-in b t x all j i ∙ num-at (newBit b s w v) (new-lt b s w v) t x j i))
+    (λ j i e. rw (← e) (new-in b t x all j i ∙ num-at (newBit b s w v) (new-lt b s w v) t x j i))
     (λ i. new-after b t x all k i ∙ sym (new-after b s w v k (omega arith))))
   where
     all : ℕ

@@ -2,7 +2,7 @@
 use mathlib.Core.Path.{_≡_}
 use mathlib.Core.Bool.{Bool, cond}
 use mathlib.Core.List.{List, []}
-use Prim.Native.Nat.{ℕ, _+_, _*_, _/_, _%_, _^_}
+use Prim.Native.Nat.{ℕ, _+_, _*_, _^_}
 use lib.Dec.{leb, ltb}
 use lib.ListN.{length, take, drop}
 use Rattle.bits.specs.declared.Fit.{Fit}
@@ -68,9 +68,3 @@ afterBytes BytesWrite.Outside b b' = b
 pub record BytesWritten (b b' : List ℕ) (f n v : ℕ) (r : BytesWrite) : Type 0 where
   pub answer : r ≡ bytesAnswer b f n
   pub bytes : b' ≡ afterBytes r b (put b (8 * f) (8 * n) v)
-
--- ---- a window of 64 bits
-
--- x with v in the w bits that have r bits below them
-abbrev pub pasted : ℕ → ℕ → ℕ → ℕ → ℕ
-pasted x w r v = (x / 2 ^ r / 2 ^ w * 2 ^ w + v) * 2 ^ r + x % 2 ^ r

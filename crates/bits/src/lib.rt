@@ -9,9 +9,10 @@ ghost use Prim.Native.Nat.{ℕ, _+_, _-_, _*_, _/_, _%_, _^_, _≤_, _<_};
 ghost use lib.ListN.{length};
 ghost use Rattle.octets.specs.Octets.{AreBytes};
 ghost use Rattle.bits.specs.Bits.{spelled, touched as touchedBy};
-ghost use Rattle.bits.specs.Positions.{globalOf, endPos, endOf};
+ghost use Rattle.bits.specs.Positions.{globalOf, endPos, endPosSays};
 ghost use Rattle.bits.specs.Writes.{put, putBytes};
-ghost use Rattle.bits.specs.Runs.{fitOf, readNumber, NumberWritten, holdsBytes, bytesAt, BytesWritten, pasted};
+ghost use Rattle.bits.specs.Runs.{fitOf, readNumber, NumberWritten, holdsBytes, bytesAt, BytesWritten};
+ghost use Rattle.bits.specs.Working.{pasted};
 
 // The position of a bit: its number, counted from the header's first bit on.
 pub struct BitPos {
@@ -88,14 +89,14 @@ impl BitPos {
 
     // The position of the last bit of a run that starts here, or position 1.
     pub fn end_pos(self, width: Bits) -> EndPos
-        ensures { λ r. ⌜ endOf r ≡ endPos (globalOf self) (width .0) ⌝ }
+        ensures { λ r. ⌜ endPosSays r ≡ endPos (globalOf self) (width .0) ⌝ }
     {
         let start = self.global.0;
         let w = width.0;
         if w == 0 {
             return EndPos::Refused(Refusal::Position(PositionFault::RunHasNoEnd));
         }
-        if 18446744073709551615 - start < w {
+        if u64::MAX - start < w {
             return EndPos::Refused(Refusal::Position(PositionFault::RunHasNoEnd));
         }
         EndPos::At(BitPos::new(Bits(start + (w - 1))))

@@ -5,7 +5,7 @@ use mathlib.Core.Option.{Option, none, some}
 use Prim.Native.Nat.{ℕ, _+_, _-_, _^_}
 use lib.Dec.{leb, ltb}
 use Rattle.answer.specs.declared.Group.{Group}
-use Rattle.answer.specs.Paper.{Answer, gives, paperOf, refuse, _andThen_}
+use Rattle.answer.specs.Paper.{Answer, gives, refusalSays, refuse, _andThen_}
 use Rattle.bounds.specs.declared.Bound.{Bound}
 use Rattle.bounds.specs.declared.CondBounds.{CondBounds}
 use Rattle.bounds.specs.declared.Emptiness.{Emptiness}
@@ -116,14 +116,14 @@ firstLast r = firstLastFrom (firstOf (r .start)) (r .end)
 
 -- ---- what the program's answers say
 
-abbrev pub emptinessOf : Emptiness → Answer Bool
-emptinessOf (Emptiness.Is empty) = gives empty
-emptinessOf (Emptiness.Refused r) = paperOf r
+abbrev pub emptinessSays : Emptiness → Answer Bool
+emptinessSays (Emptiness.Is empty) = gives empty
+emptinessSays (Emptiness.Refused r) = refusalSays r
 
-abbrev pub intersectionOf : Intersection → Answer CondBounds
-intersectionOf (Intersection.Is r) = gives r
-intersectionOf (Intersection.Refused r) = paperOf r
+abbrev pub intersectionSays : Intersection → Answer CondBounds
+intersectionSays (Intersection.Is r) = gives r
+intersectionSays (Intersection.Refused r) = refusalSays r
 
-abbrev pub numbersOf : FirstLast → Option (ℕ × ℕ)
-numbersOf (FirstLast.Are first last) = some (first, last)
-numbersOf FirstLast.None = none
+abbrev pub firstLastSays : FirstLast → Option (ℕ × ℕ)
+firstLastSays (FirstLast.Are first last) = some (first, last)
+firstLastSays FirstLast.None = none

@@ -4,7 +4,7 @@ use answer::Refusal;
 ghost use mathlib.Core.Path.{_≡_};
 ghost use mathlib.Core.Bool.{cond};
 ghost use Prim.Native.Nat.{_+_};
-ghost use Rattle.bounds.specs.Bounds.{fromStart, toEnd, lastOf, clippedEnd, clipped, isExcluded, emptyFrom, isEmpty, startsLater, numberUpTo, endsEarlier, intersection, firstLastFrom, firstLast, emptinessOf, intersectionOf, numbersOf};
+ghost use Rattle.bounds.specs.Bounds.{fromStart, toEnd, lastOf, clippedEnd, clipped, isExcluded, emptyFrom, isEmpty, startsLater, numberUpTo, endsEarlier, intersection, firstLastFrom, firstLast, emptinessSays, intersectionSays, firstLastSays};
 
 // Where a range starts or ends: nowhere, with a number, or just past a start and just before an end.
 pub enum Bound {
@@ -85,7 +85,7 @@ fn last(end: Bound) -> u64
     ensures { λ r. ⌜ r ≡ lastOf end ⌝ }
 {
     match end {
-        Bound::Unbounded => 18446744073709551615,
+        Bound::Unbounded => u64::MAX,
         Bound::Included(e) => e,
         Bound::Excluded(e) => if e == 0 { 0 } else { e - 1 },
     }
@@ -93,7 +93,7 @@ fn last(end: Bound) -> u64
 
 // From a number on.
 fn first_last_from(first: u64, end: Bound) -> FirstLast
-    ensures { λ r. ⌜ numbersOf r ≡ firstLastFrom first end ⌝ }
+    ensures { λ r. ⌜ firstLastSays r ≡ firstLastFrom first end ⌝ }
 {
     if to_end(end, first) {
         return FirstLast::Are(first, last(end));
@@ -103,9 +103,9 @@ fn first_last_from(first: u64, end: Bound) -> FirstLast
 
 // From past a number on.
 fn first_last_past(a: u64, end: Bound) -> FirstLast
-    ensures { λ r. ⌜ numbersOf r ≡ firstLastFrom (a + 1) end ⌝ }
+    ensures { λ r. ⌜ firstLastSays r ≡ firstLastFrom (a + 1) end ⌝ }
 {
-    if a < 18446744073709551615 {
+    if a < u64::MAX {
         return first_last_from(a + 1, end);
     }
     FirstLast::None
@@ -127,7 +127,7 @@ fn empty_from(first: u64, end: Bound) -> bool
     ensures { λ r. ⌜ r ≡ emptyFrom first end ⌝ }
 {
     match end {
-        Bound::Unbounded => 18446744073709551615 <= first,
+        Bound::Unbounded => u64::MAX <= first,
         Bound::Included(e) => e < first,
         Bound::Excluded(e) => e <= first,
     }
@@ -187,7 +187,7 @@ impl CondBounds {
 
     // Whether the range counts as empty; bound 1 for an excluded start.
     pub fn is_empty(self) -> Emptiness
-        ensures { λ r. ⌜ emptinessOf r ≡ isEmpty self ⌝ }
+        ensures { λ r. ⌜ emptinessSays r ≡ isEmpty self ⌝ }
     {
         let start = self.start;
         let end = self.end;
@@ -200,7 +200,7 @@ impl CondBounds {
 
     // What two ranges have in common; bound 1 where either start is excluded.
     pub fn intersect(self, other: CondBounds) -> Intersection
-        ensures { λ r. ⌜ intersectionOf r ≡ intersection self other ⌝ }
+        ensures { λ r. ⌜ intersectionSays r ≡ intersection self other ⌝ }
     {
         let start = self.start;
         let end = self.end;
@@ -217,7 +217,7 @@ impl CondBounds {
 
     // The first and the last number that lie in the range.
     pub fn first_last(self) -> FirstLast
-        ensures { λ r. ⌜ numbersOf r ≡ firstLast self ⌝ }
+        ensures { λ r. ⌜ firstLastSays r ≡ firstLast self ⌝ }
     {
         let start = self.start;
         let end = self.end;

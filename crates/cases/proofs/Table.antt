@@ -2,37 +2,36 @@
 use mathlib.Core.Path.{_≡_, refl}
 use mathlib.Core.List.{map}
 use Rattle.answer.specs.Paper.{first}
-use Rattle.octets.specs.Octets.{be, allIn, isZero, isName, same}
-use Rattle.octets.specs.Ones.{checkHolds}
+use Rattle.answer.specs.Walk.{each, firstWhere}
+use Rattle.octets.specs.Octets.{be, allIn, isZero, isNameByte, same}
 use Rattle.number.specs.Numbers.{maxValue}
 use Rattle.bits.specs.Bits.{num}
 use Rattle.bits.specs.Writes.{newBit, pack, put}
-use Rattle.blocks.specs.Walk.{each}
 use Rattle.blocks.specs.Layout.{named, nameOf, codesLayout, defaultLayout, fLayout, lLayout, cLayout, layoutHolds}
-use Rattle.sheet.specs.Walk.{firstWhere}
+use Rattle.blocks.specs.Check.{checkHolds}
 use Rattle.sheet.specs.Blocks.{blockAt, count}
 use Rattle.sheet.specs.Sheet as sheet
 use Rattle.field.specs.Fields.{inferRepr, fieldCheck}
 use Rattle.layout.specs.Layout.{bits, defaults, fill, template}
-use Rattle.layout.specs.Listed.{listed, position}
-use Rattle.header.specs.Places.{layoutOf}
+use Rattle.layout.specs.Indexed.{fieldsFrom, position}
+use Rattle.header.specs.Starts.{headerLayout}
 use Rattle.header.specs.Step as header
-use Rattle.expr.specs.Forms.{fits, less, over}
+use Rattle.expr.specs.Forms.{in64Bits, less, over}
 use Rattle.slots.specs.Slots.{exprIn}
 use Rattle.length.specs.Step as length
 use Rattle.cond.specs.Ranges.{rangeIn}
 use Rattle.cond.specs.Step as cond
 use Rattle.definition.specs.Definition.{definitionCheck}
-use Rattle.definition.specs.Says.{entryBlock}
+use Rattle.definition.specs.Unchecked.{entryBlock}
 use Rattle.cases.specs.Sheets.{blockBytes, sheetOf}
 use Rattle.cases.specs.Table.{asked, table}
 
 pub table-holds : map (λ c. asked (c .question)) table ≡ map (λ c. c .expected) table
-unfolding first be allIn isZero isName same checkHolds maxValue num newBit pack put
+unfolding first be allIn isZero isNameByte same checkHolds maxValue num newBit pack put
     each named nameOf codesLayout defaultLayout fLayout lLayout cLayout layoutHolds
-    firstWhere blockAt count sheet.faultsOf sheet.sheetCheck inferRepr fieldCheck
-    bits defaults fill template listed position layoutOf header.faultsOf header.headerCheck
-    fits less over exprIn length.fieldFault length.lengthFault length.lengthCheck
-    rangeIn cond.fieldFault cond.condCheck cond.rangeNumbers definitionCheck entryBlock
+    firstWhere blockAt count sheet.blockFault sheet.sheetCheck inferRepr fieldCheck
+    bits defaults fill template fieldsFrom position headerLayout header.headerFault header.headerCheck
+    in64Bits less over exprIn length.lengthFieldFault length.lengthFault length.lengthCheck
+    rangeIn cond.condFault cond.condCheck cond.rangeNumbers definitionCheck entryBlock
     blockBytes sheetOf asked table
 table-holds = refl

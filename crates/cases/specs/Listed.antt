@@ -1,8 +1,8 @@
 -- A sheet of eight blocks, and the text that is printed of it. Assumes nothing.
 use mathlib.Core.List.{List, [], _∷_, _++_}
 use Prim.Native.Nat.{ℕ}
-use Rattle.text.specs.Text.{ascii}
 use Rattle.cases.specs.Sheets.{Block, fieldBlock, condBlock, preset, measure, presetMeasure, headerLen, packetLen, slotHolds, slotHoldsTimes, _to_}
+use Rattle.octets.specs.Ascii.{ascii}
 
 unfoldable pub eightBlocks : List Block
 eightBlocks =

@@ -3,8 +3,9 @@ use mathlib.Core.List.{List, [], _∷_, _++_}
 use Prim.Native.Nat.{ℕ, zero, suc, _-_, _/_, _%_}
 use Prim.Native.String.{String}
 use lib.ListN.{length}
-use Rattle.octets.specs.Ones.{words, onesSum}
-use Rattle.text.specs.Text.{ascii}
+use Rattle.blocks.specs.Layout.{checkAt, kindF, kindL, kindC}
+use Rattle.blocks.specs.Ones.{words, onesSum}
+use Rattle.octets.specs.Ascii.{ascii}
 
 -- ---- descriptions: what a block states, in the codes of its layout
 
@@ -91,13 +92,13 @@ rangeBytes (r ∷ rs) = r .startKind ∷ r .endKind ∷ numberBytes 8 (r .start)
 -- the bytes of a block up to the last that is stated; 75 of an F and 67 of a C are not named
 abbrev statedBytes : Block → List ℕ
 statedBytes (fieldBlock name bits repr arg gen defaultKind fixed number) =
-    headed 70 (ascii name) (numberBytes 4 bits (repr ∷ arg ∷ gen ∷ defaultKind ∷ fixed ∷ 0 ∷ numberBytes 8 number []))
-statedBytes (lengthBlock slot form name first second) = headed 76 (ascii name) (slot ∷ form ∷ numberBytes 8 first (numberBytes 8 second []))
-statedBytes (condBlock name ranges) = headed 67 (ascii name) (length ranges ∷ 0 ∷ rangeBytes ranges)
+    headed kindF (ascii name) (numberBytes 4 bits (repr ∷ arg ∷ gen ∷ defaultKind ∷ fixed ∷ 0 ∷ numberBytes 8 number []))
+statedBytes (lengthBlock slot form name first second) = headed kindL (ascii name) (slot ∷ form ∷ numberBytes 8 first (numberBytes 8 second []))
+statedBytes (condBlock name ranges) = headed kindC (ascii name) (length ranges ∷ 0 ∷ rangeBytes ranges)
 
--- with zeros up to 510, and there the complement of the sum of all of them
+-- with zeros up to the check, and there the complement of the sum of all of them
 unfoldable pub blockBytes : Block → List ℕ
-blockBytes d = let b = padded 510 (statedBytes d) [] in b ++ numberBytes 2 (65535 - onesSum (words b)) []
+blockBytes d = let b = padded checkAt (statedBytes d) [] in b ++ numberBytes 2 (65535 - onesSum (words b)) []
 
 -- block after block
 unfoldable pub sheetOf : List Block → List ℕ

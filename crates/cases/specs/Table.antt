@@ -14,12 +14,12 @@ use Rattle.field.specs.declared.DefinedArg.{DefinedArg}
 use Rattle.field.specs.declared.DefinedDefault.{DefinedDefault}
 use Rattle.field.specs.Fields.{fieldCheck}
 use Rattle.layout.specs.Layout.{template}
-use Rattle.header.specs.Places.{layoutOf}
+use Rattle.header.specs.Starts.{headerLayout}
 use Rattle.header.specs.Step.{headerBytes}
 use Rattle.expr.specs.declared.UsableAlgExpr.{UsableAlgExpr}
 use Rattle.expr.specs.Forms.{back}
 use Rattle.definition.specs.Definition.{definitionCheck}
-use Rattle.definition.specs.Says.{condRange}
+use Rattle.definition.specs.Unchecked.{condRange}
 use Rattle.cases.specs.Sheets.{Block, condBlock, plain, preset, measure, presetMeasure, headerLen, payloadLen, packetLen}
 use Rattle.cases.specs.Sheets.{slotHolds, slotHoldsTimes, below, _to_, _toBelow_, sheetOf}
 
@@ -47,7 +47,7 @@ pub data Outcome : Type 0 where
 unfoldable pub asked : Question → Outcome
 asked (verdict blocks) = answer (definitionCheck (sheetOf blocks))
 asked (fieldAlone bits repr arg default) = answer (fieldCheck 0 bits repr arg default)
-asked (header blocks) = headerIs (headerBytes (sheetOf blocks)) (template (layoutOf (sheetOf blocks)))
+asked (header blocks) = headerIs (headerBytes (sheetOf blocks)) (template (headerLayout (sheetOf blocks)))
 asked (range blocks k j) = numbers (condRange (sheetOf blocks) k j)
 asked (backFrom e y) = value (back e y)
 

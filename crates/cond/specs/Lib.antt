@@ -1,3 +1,3 @@
 pub mod Ranges
 pub mod Step
-pub mod Conditions
+pub mod ConditionsAre

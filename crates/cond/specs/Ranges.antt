@@ -2,9 +2,9 @@
 use mathlib.Core.Bool.{cond}
 use mathlib.Core.List.{List}
 use mathlib.Core.Option.{Option, none, some}
-use Prim.Native.Nat.{ℕ, _+_, _-_, _*_, _^_}
+use Prim.Native.Nat.{ℕ, _-_, _^_}
 use lib.Dec.{eqb}
-use Rattle.octets.specs.Octets.{byte, be}
+use Rattle.blocks.specs.Layout.{statedRange}
 use Rattle.number.specs.Numbers.{maxValue}
 use Rattle.bounds.specs.declared.Bound.{Bound}
 use Rattle.bounds.specs.declared.CondBounds.{CondBounds}
@@ -13,18 +13,15 @@ use Rattle.field.specs.declared.Field.{Field}
 use Rattle.field.specs.Sound.{widthOf}
 
 -- start kind 0 none, 1 included; end kind 0 none, 1 included, 2 excluded
-abbrev pub startOf : ℕ → ℕ → Bound
-startOf kind number = cond (eqb kind 0) Bound.Unbounded (Bound.Included number)
+abbrev pub startBound : ℕ → ℕ → Bound
+startBound kind number = cond (eqb kind 0) Bound.Unbounded (Bound.Included number)
 
-abbrev pub endOf : ℕ → ℕ → Bound
-endOf kind number = cond (eqb kind 0) Bound.Unbounded (cond (eqb kind 1) (Bound.Included number) (Bound.Excluded number))
+abbrev pub endBound : ℕ → ℕ → Bound
+endBound kind number = cond (eqb kind 0) Bound.Unbounded (cond (eqb kind 1) (Bound.Included number) (Bound.Excluded number))
 
--- 66 range count; range k, 18 bytes at 68 + 18 * k: start kind, end kind, start, end
-abbrev pub rangeCount : List ℕ → ℕ
-rangeCount b = byte b 66
-
+-- range k of a C block
 unfoldable pub rangeIn : List ℕ → ℕ → CondBounds
-rangeIn b k = let at = 68 + 18 * k in record { start = startOf (byte b at) (be b (at + 2) 8); end = endOf (byte b (at + 1)) (be b (at + 10) 8) }
+rangeIn b k = let r = statedRange b k in record { start = startBound (r .opens) (r .start); end = endBound (r .closes) (r .end) }
 
 -- the largest value of a field. No field that step 2 accepts and that is no byte slice is without one; then the largest number of all stands for it
 abbrev pub orAll : Option ℕ → ℕ

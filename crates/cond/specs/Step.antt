@@ -6,17 +6,16 @@ use Prim.Native.Nat.{ℕ}
 use lib.Dec.{ltb}
 use Rattle.answer.specs.declared.Group.{Group}
 use Rattle.answer.specs.Paper.{Check, accepted, refused, refuse, _andThen_, first}
+use Rattle.answer.specs.Walk.{firstWhere, isSome}
 use Rattle.octets.specs.Octets.{same}
-use Rattle.blocks.specs.Layout.{kindOf, isC}
-use Rattle.sheet.specs.Walk.{firstWhere}
+use Rattle.blocks.specs.Layout.{kindOf, isC, rangeCount}
 use Rattle.sheet.specs.Blocks.{blockCount, blockAt, condCount}
-use Rattle.sheet.specs.Sheet.{isSome}
 use Rattle.types.specs.Types.{isSlice}
 use Rattle.field.specs.declared.Field.{Field}
-use Rattle.fields.specs.Step.{fieldAt}
+use Rattle.field_blocks.specs.Step.{fieldAt}
 use Rattle.header.specs.Names.{nameAt, fieldNamed}
 use Rattle.bounds.specs.Bounds.{holdsNone, meets, firstLast}
-use Rattle.cond.specs.Ranges.{rangeCount, largestOf, clippedIn}
+use Rattle.cond.specs.Ranges.{largestOf, clippedIn}
 
 -- ---- one entry
 
@@ -38,16 +37,16 @@ isEntry b = isC (kindOf b)
 abbrev pub listedBefore : List ℕ → ℕ → Bool
 listedBefore s i = isSome (firstWhere (λ j. isEntry (blockAt s j) && same (nameAt s j) (nameAt s i)) i)
 
--- cond 2, a byte slice; then the ranges; then cond 7
-unfoldable pub fieldFault : List ℕ → Field → Bool → ℕ → Check
-fieldFault b f listed i =
+-- with this field: cond 2, a byte slice; then the ranges; then cond 7
+unfoldable pub condFault : List ℕ → ℕ → Field → Check
+condFault s i f =
     refuse (isSlice (f .repr)) Group.Cond 2 i
-    andThen rangesCheck b (largestOf f) i
-    andThen refuse listed Group.Cond 7 i
+    andThen rangesCheck (blockAt s i) (largestOf f) i
+    andThen refuse (listedBefore s i) Group.Cond 7 i
 
 -- cond 1: no such field
 abbrev pub namedFault : List ℕ → ℕ → Option ℕ → Check
-namedFault s i (some k) = fieldFault (blockAt s i) (fieldAt s k) (listedBefore s i) i
+namedFault s i (some k) = condFault s i (fieldAt s k)
 namedFault s i none = refused Group.Cond 1 i
 
 abbrev pub entryFault : List ℕ → ℕ → Check

@@ -11,23 +11,21 @@ use bounds::Intersection;
 use field::Field;
 use header::FieldIndex;
 use number::MaxValue;
-use octets::be64;
-use octets::byte_at;
 use octets::same_bytes;
 ghost use mathlib.Core.Path.{_≡_};
 ghost use mathlib.Core.Bool.{Bool, _&&_};
 ghost use Rattle.answer.specs.declared.Group.{Group};
-ghost use Rattle.answer.specs.Paper.{gives, condNumber, paper, refuse as refusedIf};
+ghost use Rattle.answer.specs.Paper.{gives, condNumber, verdictSays, refuse as refusedIf};
 ghost use Rattle.octets.specs.Octets.{same};
 ghost use Rattle.blocks.specs.Layout.{nameOf};
-ghost use Rattle.bounds.specs.Bounds.{isEmpty, holdsNone, meets, numbersOf};
-ghost use Rattle.cond.specs.Ranges.{startOf, endOf, rangeIn, largestOf, clippedIn};
-ghost use Rattle.cond.specs.Step.{meetsEarlier, rangeFault, rangesCheck, isEntry, listedBefore, fieldFault, entryFault, condCheck, rangeNumbers};
+ghost use Rattle.bounds.specs.Bounds.{isEmpty, holdsNone, meets, firstLastSays};
+ghost use Rattle.cond.specs.Ranges.{startBound, endBound, rangeIn, largestOf, clippedIn};
+ghost use Rattle.cond.specs.Step.{meetsEarlier, rangeFault, rangesCheck, isEntry, listedBefore, condFault, entryFault, condCheck, rangeNumbers};
 
 // ---- the ranges of a block
 
 fn start_of(kind: u8, number: u64) -> Bound
-    ensures { λ r. ⌜ r ≡ startOf kind number ⌝ }
+    ensures { λ r. ⌜ r ≡ startBound kind number ⌝ }
 {
     match kind {
         0 => Bound::Unbounded,
@@ -36,7 +34,7 @@ fn start_of(kind: u8, number: u64) -> Bound
 }
 
 fn end_of(kind: u8, number: u64) -> Bound
-    ensures { λ r. ⌜ r ≡ endOf kind number ⌝ }
+    ensures { λ r. ⌜ r ≡ endBound kind number ⌝ }
 {
     match kind {
         0 => Bound::Unbounded,
@@ -49,10 +47,10 @@ fn end_of(kind: u8, number: u64) -> Bound
 fn range_in(b: &[u8], k: u8) -> CondBounds
     ensures { λ r. ⌜ r ≡ rangeIn (now (b .entry)) k ⌝ }
 {
-    let at = 68 + 18 * (k as usize);
+    let r = blocks::stated_range(b, k);
     CondBounds {
-        start: start_of(byte_at(b, at), be64(b, at + 2)),
-        end: end_of(byte_at(b, at + 1), be64(b, at + 10)),
+        start: start_of(r.opens, r.start),
+        end: end_of(r.closes, r.end),
     }
 }
 
@@ -67,10 +65,10 @@ fn clipped_in(b: &[u8], most: u64, k: u8) -> CondBounds
 fn largest(f: Field) -> u64
     ensures { λ r. ⌜ r ≡ largestOf f ⌝ }
 {
-    let bit = f.bit;
-    match number::max_value(bit) {
+    let width = f.width;
+    match number::max_value(width) {
         MaxValue::Is(most) => most,
-        MaxValue::None => 18446744073709551615,
+        MaxValue::None => u64::MAX,
     }
 }
 
@@ -116,13 +114,13 @@ fn meets_earlier(b: &[u8], most: u64, k: u8) -> bool
 
 // Entry i refused for this reason where the test holds.
 fn refuse(test: bool, fault: CondFault, i: usize) -> Verdict
-    ensures { λ r. ⌜ paper r ≡ refusedIf test Group.Cond (condNumber fault) i ⌝ }
+    ensures { λ r. ⌜ verdictSays r ≡ refusedIf test Group.Cond (condNumber fault) i ⌝ }
 {
     Verdict::refuse(test, Refusal::Cond(fault, i))
 }
 
 fn range_fault(b: &[u8], most: u64, i: usize, k: u8) -> Verdict
-    ensures { λ r. ⌜ paper r ≡ rangeFault (now (b .entry)) most i k ⌝ }
+    ensures { λ r. ⌜ verdictSays r ≡ rangeFault (now (b .entry)) most i k ⌝ }
 {
     let empty = refuse(empty_in(b, most, k), CondFault::RangeEmpty, i);
     let meeting = refuse(meets_earlier(b, most, k), CondFault::RangesMeet, i);
@@ -130,9 +128,9 @@ fn range_fault(b: &[u8], most: u64, i: usize, k: u8) -> Verdict
 }
 
 fn check_ranges(b: &[u8], most: u64, i: usize) -> Verdict
-    ensures { λ r. ⌜ paper r ≡ rangesCheck (now (b .entry)) most i ⌝ }
+    ensures { λ r. ⌜ verdictSays r ≡ rangesCheck (now (b .entry)) most i ⌝ }
 {
-    let n = byte_at(b, 66);
+    let n = blocks::range_count(b);
     let mut k: u8 = 0;
     while k < n {
         let v = range_fault(b, most, i, k);
@@ -149,7 +147,7 @@ fn check_ranges(b: &[u8], most: u64, i: usize) -> Verdict
 fn is_entry(b: &[u8]) -> bool
     ensures { λ r. ⌜ r ≡ isEntry (now (b .entry)) ⌝ }
 {
-    byte_at(b, 0) == b'C'
+    blocks::kind(b) == b'C'
 }
 
 fn lists(b: &[u8], wanted: &[u8]) -> bool
@@ -176,41 +174,36 @@ fn listed_before(s: &[u8], i: usize) -> bool
     false
 }
 
-// Cond 2 to 7 of an entry: by its block, its field and whether that was listed before.
-fn field_fault(b: &[u8], f: Field, listed: bool, i: usize) -> Verdict
-    ensures { λ r. ⌜ paper r ≡ fieldFault (now (b .entry)) f listed i ⌝ }
+// Cond 2 to 7 of the entry in block i, which names this field.
+fn field_fault(s: &[u8], i: usize, f: Field) -> Verdict
+    ensures { λ r. ⌜ verdictSays r ≡ condFault (now (s .entry)) i f ⌝ }
 {
     let repr = f.repr;
     let slice = refuse(repr.is_slice(), CondFault::FieldIsByteSlice, i);
-    let ranges = check_ranges(b, largest(f), i);
-    let again = refuse(listed, CondFault::FieldListedBefore, i);
+    let ranges = check_ranges(sheet::block(s, i), largest(f), i);
+    let again = refuse(listed_before(s, i), CondFault::FieldListedBefore, i);
     slice.and_then(ranges.and_then(again))
 }
 
 // Cond 1 to 7 of block i, where it is an entry.
 fn entry_fault(s: &[u8], i: usize) -> Verdict
-    ensures { λ r. ⌜ paper r ≡ entryFault (now (s .entry)) i ⌝ }
+    ensures { λ r. ⌜ verdictSays r ≡ entryFault (now (s .entry)) i ⌝ }
 {
     let b = sheet::block(s, i);
     if !is_entry(b) {
         return Verdict::Accepted;
     }
-    match header::field_named(s, name(b)) {
-        FieldIndex::At(k) => field_fault(
-            b,
-            fields::resolved(sheet::block(s, k)),
-            listed_before(s, i),
-            i,
-        ),
+    match header::unchecked_field_named(s, name(b)) {
+        FieldIndex::At(k) => field_fault(s, i, field_blocks::resolved(sheet::block(s, k))),
         FieldIndex::None => Verdict::Refused(Refusal::Cond(CondFault::NoSuchField, i)),
     }
 }
 
 // Step 5: the answer on the C blocks of a sheet.
 pub fn check(s: &[u8]) -> Verdict
-    ensures { λ r. ⌜ paper r ≡ condCheck (now (s .entry)) ⌝ }
+    ensures { λ r. ⌜ verdictSays r ≡ condCheck (now (s .entry)) ⌝ }
 {
-    let n = s.len() / 512;
+    let n = sheet::block_count(s);
     let mut i = 0;
     while i < n {
         let v = entry_fault(s, i);
@@ -228,15 +221,15 @@ pub fn check(s: &[u8]) -> Verdict
 
 // The first and the last number of range k of the entry in block i, cut at the field's largest value.
 pub fn range_numbers(s: &[u8], i: usize, k: u8) -> FirstLast
-    ensures { λ r. ⌜ numbersOf r ≡ rangeNumbers (now (s .entry)) i k ⌝ }
+    ensures { λ r. ⌜ firstLastSays r ≡ rangeNumbers (now (s .entry)) i k ⌝ }
 {
     let b = sheet::block(s, i);
-    if !(is_entry(b) & (k < byte_at(b, 66))) {
+    if !(is_entry(b) & (k < blocks::range_count(b))) {
         return FirstLast::None;
     }
-    match header::field_named(s, name(b)) {
+    match header::unchecked_field_named(s, name(b)) {
         FieldIndex::At(j) => {
-            clipped_in(b, largest(fields::resolved(sheet::block(s, j))), k).first_last()
+            clipped_in(b, largest(field_blocks::resolved(sheet::block(s, j))), k).first_last()
         }
         FieldIndex::None => FirstLast::None,
     }

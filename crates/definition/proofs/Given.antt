@@ -10,30 +10,32 @@ use native.Mathlib.Omega.{arith}
 use lib.Pow.{pow-mono}
 use borrow.Author.Tests.{lt-ltb, le-leb, eq-eqb}
 use Rattle.number.specs.Numbers.{maxBytes, maxValue}
-use Rattle.number.proofs.Laws.{no-max-zero, no-max-wide, max-is}
+use Rattle.number.proofs.Limits.{no-max-zero, no-max-wide, max-is}
 use Rattle.sheet.specs.Blocks.{blockCount, blockAt, fieldCount, lengthCount, condCount}
-use Rattle.sheet.specs.Accepted as sheet
-use Rattle.sheet.proofs.Accepted.{accepted-is}
+use Rattle.sheet.specs.SheetIs as sheet
+use Rattle.sheet.proofs.SheetIs.{sheet-is}
 use Rattle.field.specs.declared.Field.{Field}
 use Rattle.field.specs.Sound.{widthOf}
-use Rattle.fields.specs.Step.{fieldAt}
+use Rattle.field_blocks.specs.Step.{fieldAt}
 use Rattle.header.specs.Step.{headerBytes}
 use Rattle.expr.specs.declared.UsableAlgExpr.{UsableAlgExpr}
 use Rattle.slots.specs.declared.LengthField.{LengthField}
-use Rattle.slots.specs.Slots.{exprIn, held, heldBy, lengthField, placeOf, blockOfSlot}
+use Rattle.slots.specs.Slots.{exprIn, held, heldBy, lengthField, blockOfSlot}
 use Rattle.length.specs.Step.{largest, usedBy, worked, largestLength}
-use Rattle.length.proofs.Lengths.{lengths-are}
+use Rattle.length.proofs.LengthsAre.{lengths-are}
 use Rattle.bounds.specs.declared.CondBounds.{CondBounds}
 use Rattle.bounds.specs.Bounds.{inside, firstLast}
-use Rattle.bounds.proofs.Laws.{clipped-inside, first-last-none}
-use Rattle.cond.specs.Ranges.{rangeCount, rangeIn, orAll, largestOf, clippedIn}
+use Rattle.bounds.proofs.InNumbers.{clipped-inside, first-last-none}
+use Rattle.cond.specs.Ranges.{rangeIn, orAll, largestOf, clippedIn}
 use Rattle.cond.specs.Step.{isEntry, rangeNumbers}
-use Rattle.cond.specs.Conditions.{Entry}
-use Rattle.cond.proofs.Conditions.{conditions-are}
+use Rattle.cond.specs.ConditionsAre.{Entry}
+use Rattle.cond.proofs.ConditionsAre.{conditions-are}
 use Rattle.definition.specs.declared.CondEntry.{CondEntry}
 use Rattle.definition.specs.Definition.{Accepted}
-use Rattle.definition.specs.Says.{entryBlock, condEntry, condRange, onField, inBlock}
-use Rattle.definition.proofs.Laws.{passed-all}
+use Rattle.definition.specs.Unchecked.{entryBlock, condEntry, condRange, onField, inBlock}
+use Rattle.definition.proofs.Steps.{five-steps}
+use Rattle.answer.specs.Walk.{orZero}
+use Rattle.blocks.specs.Layout.{kindC, rangeCount}
 
 -- a value of a field has at most 64 bits
 pub largest-fits : (f : Field) → largestOf f < 2 ^ 64
@@ -54,17 +56,17 @@ module _ (s : List ℕ) (ok : Accepted s) where
       of-expr (some y) q = cc
       of-expr none q = cc
 
-      by-block : (b : Option ℕ) → blockOfSlot s slot ≡ b → heldBy s b ≡ LengthField.Expr e → (most : ℕ) × (worked largest (usedBy s (placeOf b) (heldBy s b)) ≡ some most) × (most ≤ maxBytes)
+      by-block : (b : Option ℕ) → blockOfSlot s slot ≡ b → heldBy s b ≡ LengthField.Expr e → (most : ℕ) × (worked largest (usedBy s (orZero b) (heldBy s b)) ≡ some most) × (most ≤ maxBytes)
       by-block (some at) is q =
-          let found = lengths-are s (headerBytes s) .0 (passed-all s ok .length) .used slot at h is e (of-expr (exprIn (blockAt s at)) q) in
+          let found = lengths-are s (headerBytes s) .0 (five-steps s ok .length) .used slot at h is e (of-expr (exprIn (blockAt s at)) q) in
           let serves = found .2 in
           (serves .most, rw (q, found .1) (serves .most-is), serves .most-allowed)
       by-block none is q = absurd (let z : _≡_ {A = ℕ} 0 1 = cc in omega arith)
 
   -- ---- conditions
 
-  whole : sheet.Accepted s
-  whole = accepted-is s .0 (passed-all s ok .sheet)
+  whole : sheet.SheetIs s
+  whole = sheet-is s .0 (five-steps s ok .sheet)
 
   module _ (k : ℕ) (h : k < condCount s) where
     abbrev block : ℕ
@@ -78,10 +80,10 @@ module _ (s : List ℕ) (ok : Accepted s) where
     there = omega (arith, whole .no-others)
 
     is-entry : isEntry (blockAt s block) ≡ true
-    is-entry = eq-eqb _ 67 (whole .c-last block (omega arith) there)
+    is-entry = eq-eqb _ kindC (whole .c-last block (omega arith) there)
 
     entry : Entry s block
-    entry = conditions-are s .0 (passed-all s ok .conds) .entries block there is-entry
+    entry = conditions-are s .0 (five-steps s ok .conds) .entries block there is-entry
 
     pub entry-given : (c : CondEntry) × (condEntry s k ≡ some c)
     entry-given = (

@@ -1,4 +1,4 @@
-pub mod Laws
-pub mod Says
+pub mod Steps
+pub mod Unchecked
 pub mod Given
 pub mod Within

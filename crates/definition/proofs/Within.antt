@@ -11,21 +11,22 @@ use lib.Dec.{leb}
 use borrow.Author.Tests.{leb-true}
 use Rattle.answer.specs.declared.Group.{Group}
 use Rattle.answer.specs.Paper.{gives, refused, Check, _andThen_, first}
+use Rattle.answer.proofs.Walk.{where-found}
+use Rattle.answer.specs.Walk.{orZero}
 use Rattle.blocks.specs.Layout.{isF}
 use Rattle.sheet.specs.Blocks.{blockCount, blockAt, fieldCount, isSlot}
-use Rattle.sheet.specs.Sheet.{faultsOf, sheetCheck}
-use Rattle.sheet.proofs.Walk.{where-found}
+use Rattle.sheet.specs.Sheet.{blockFault, sheetCheck}
 use Rattle.sheet.proofs.Blocks.{count-le}
 use Rattle.types.specs.declared.BuiltinTypes.{BuiltinTypes}
 use Rattle.types.specs.declared.Arg.{Arg}
 use Rattle.field.specs.declared.DefinedDefault.{DefinedDefault}
 use Rattle.field.specs.declared.Field.{Field}
 use Rattle.field.specs.Fields.{defaultCheck, fieldCheck}
-use Rattle.fields.specs.Step.{fieldsCheck}
+use Rattle.field_blocks.specs.Step.{fieldsCheck}
 use Rattle.header.specs.Step as header
 use Rattle.expr.specs.declared.UsableAlgExpr.{UsableAlgExpr}
 use Rattle.slots.specs.declared.LengthField.{LengthField}
-use Rattle.slots.specs.Slots.{placeOf, blockOfSlot}
+use Rattle.slots.specs.Slots.{blockOfSlot}
 use Rattle.length.specs.Named.{fieldOfBlock}
 use Rattle.length.specs.Step as length
 use Rattle.cond.specs.Step as conds
@@ -65,7 +66,7 @@ module _ {m : ℕ} where
   default-within at bits repr arg (DefinedDefault.Given d fixed) h = search chains depth 12
 
   expr-within : (header slot at : ℕ) (e : UsableAlgExpr) (f : Option Field) → at ≤ m → Within m (length.exprFault header slot at e f)
-  unfolding length.fieldFault length.lengthFault
+  unfolding length.lengthFieldFault length.lengthFault
   expr-within header slot at e (some f) h = search chains depth 12
   expr-within header slot at e none h = search chains
 
@@ -75,7 +76,7 @@ module _ {m : ℕ} where
   held-within s header slot at (LengthField.Expr e) h = expr-within header slot at e (fieldOfBlock s at) h
 
   named-within : (s : List ℕ) (i : ℕ) (found : Option ℕ) → i ≤ m → Within m (conds.namedFault s i found)
-  unfolding conds.fieldFault
+  unfolding conds.condFault
   named-within s i (some k) h = search chains depth 12
   named-within s i none h = search chains
 
@@ -86,15 +87,15 @@ module _ (s : List ℕ) where
   field-place : (i : ℕ) → i < fieldCount s → i ≤ blockCount s
   field-place i h = omega (arith, count-le s isF (blockCount s))
 
-  slot-place : (slot : ℕ) → placeOf (blockOfSlot s slot) ≤ blockCount s
+  slot-place : (slot : ℕ) → orZero (blockOfSlot s slot) ≤ blockCount s
   slot-place slot = of-block (blockOfSlot s slot) refl
     where
-      of-block : (b : Option ℕ) → blockOfSlot s slot ≡ b → placeOf b ≤ blockCount s
+      of-block : (b : Option ℕ) → blockOfSlot s slot ≡ b → orZero b ≤ blockCount s
       of-block (some i) e = le-of-lt (where-found (λ j. isSlot slot (blockAt s j)) (blockCount s) i e .0)
       of-block none e = omega arith
 
   sheet-within : Within (blockCount s) (sheetCheck s)
-  unfolding sheetCheck faultsOf
+  unfolding sheetCheck blockFault
   sheet-within = search (chains, zero-le, le-of-lt) depth 12
 
   fields-within : Within (blockCount s) (fieldsCheck s)
@@ -102,7 +103,7 @@ module _ (s : List ℕ) where
   fields-within = search (chains, default-within, field-place) depth 12
 
   header-within : Within (blockCount s) (header.headerCheck s)
-  unfolding header.headerCheck header.faultsOf
+  unfolding header.headerCheck header.headerFault
   header-within = search (chains, field-place, le-refl) depth 12
 
   length-within : (h : ℕ) → Within (blockCount s) (length.lengthCheck s h)

@@ -4,7 +4,7 @@ use mathlib.Core.List.{List}
 use Prim.Native.Nat.{ℕ}
 use Rattle.answer.specs.Paper.{Answer, gives, Check, accepted, _andThen_}
 use Rattle.sheet.specs.Sheet.{sheetCheck}
-use Rattle.fields.specs.Step.{fieldsCheck}
+use Rattle.field_blocks.specs.Step.{fieldsCheck}
 use Rattle.header.specs.declared.Header.{Header}
 use Rattle.header.specs.Step.{headerCheck, headerBytes, headerOf}
 use Rattle.length.specs.Step.{lengthCheck}

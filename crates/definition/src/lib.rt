@@ -9,22 +9,21 @@ use header::FieldIndex;
 use header::FieldStart;
 use header::Header;
 use header::NewHeader;
-use octets::byte_at;
 use slots::LengthField;
 ghost use mathlib.Core.Path.{_≡_};
-ghost use Rattle.answer.specs.Paper.{gives, paper, _andThen_};
+ghost use Rattle.answer.specs.Paper.{gives, verdictSays, _andThen_};
 ghost use Rattle.sheet.specs.Sheet.{sheetCheck};
-ghost use Rattle.fields.specs.Step.{fieldsCheck};
-ghost use Rattle.header.specs.Step.{headerAnswer};
+ghost use Rattle.field_blocks.specs.Step.{fieldsCheck};
+ghost use Rattle.header.specs.Step.{newHeaderSays};
 ghost use Rattle.length.specs.Step.{lengthCheck};
-ghost use Rattle.bounds.specs.Bounds.{numbersOf};
+ghost use Rattle.bounds.specs.Bounds.{firstLastSays};
 ghost use Rattle.cond.specs.Step.{condCheck};
 ghost use Rattle.definition.specs.Definition.{definitionCheck, definedHeader};
-ghost use Rattle.definition.specs.Says.{placedField, SlotSays, entryBlock, condEntry, condRange, placedIn, blockIn, entryIn};
+ghost use Rattle.definition.specs.Unchecked.{fieldWithStart, LengthSlotOf, entryBlock, condEntry, condRange, fieldWithStartSays, entryBlockSays, entryAtSays};
 
 // A field's record, and where it starts, if there is such a field.
-pub enum PlacedField {
-    At(Field, BitPos),
+pub enum FieldWithStart {
+    Is(Field, BitPos),
     None,
 }
 
@@ -57,18 +56,18 @@ pub enum EntryAt {
 
 // Steps 1 and 2.
 fn check_fields(s: &[u8]) -> Verdict
-    ensures { λ r. ⌜ paper r ≡ (sheetCheck (now (s .entry)) andThen fieldsCheck (now (s .entry))) ⌝ }
+    ensures { λ r. ⌜ verdictSays r ≡ (sheetCheck (now (s .entry)) andThen fieldsCheck (now (s .entry))) ⌝ }
 {
     let v = sheet::check(s);
     if let Verdict::Refused(_) = v {
         return v;
     }
-    fields::check(s)
+    field_blocks::check(s)
 }
 
 // Steps 4 and 5 of a sheet with this header.
 fn check_rest(s: &[u8], h: Header) -> NewHeader
-    ensures { λ r. ⌜ headerAnswer r ≡ (lengthCheck (now (s .entry)) (h .len .0) andThen condCheck (now (s .entry)) andThen gives h) ⌝ }
+    ensures { λ r. ⌜ newHeaderSays r ≡ (lengthCheck (now (s .entry)) (h .len .0) andThen condCheck (now (s .entry)) andThen gives h) ⌝ }
 {
     let v = length::check(s, h).and_then(cond::check(s));
     if let Verdict::Refused(reason) = v {
@@ -78,8 +77,8 @@ fn check_rest(s: &[u8], h: Header) -> NewHeader
 }
 
 // Steps 1 to 5: how many fields the header of an accepted sheet has, and how many bytes; or the refusal.
-pub fn header(s: &[u8]) -> NewHeader
-    ensures { λ r. ⌜ headerAnswer r ≡ definedHeader (now (s .entry)) ⌝ }
+pub fn checked_header(s: &[u8]) -> NewHeader
+    ensures { λ r. ⌜ newHeaderSays r ≡ definedHeader (now (s .entry)) ⌝ }
 {
     let v = check_fields(s);
     if let Verdict::Refused(reason) = v {
@@ -93,9 +92,9 @@ pub fn header(s: &[u8]) -> NewHeader
 
 // Steps 1 to 5: the verdict.
 pub fn check(s: &[u8]) -> Verdict
-    ensures { λ r. ⌜ paper r ≡ definitionCheck (now (s .entry)) ⌝ }
+    ensures { λ r. ⌜ verdictSays r ≡ definitionCheck (now (s .entry)) ⌝ }
 {
-    match header(s) {
+    match checked_header(s) {
         NewHeader::Refused(reason) => Verdict::Refused(reason),
         NewHeader::Is(_) => Verdict::Accepted,
     }
@@ -104,18 +103,21 @@ pub fn check(s: &[u8]) -> Verdict
 // ---- what a sheet says
 
 // Field i.
-pub fn field(s: &[u8], i: usize) -> PlacedField
-    ensures { λ r. ⌜ placedIn r ≡ placedField (now (s .entry)) i ⌝ }
+pub fn unchecked_field(s: &[u8], i: usize) -> FieldWithStart
+    ensures { λ r. ⌜ fieldWithStartSays r ≡ fieldWithStart (now (s .entry)) i ⌝ }
 {
-    match header::start(s, i) {
-        FieldStart::At(start) => PlacedField::At(fields::resolved(sheet::block(s, i)), start),
-        FieldStart::None => PlacedField::None,
+    match header::unchecked_start(s, i) {
+        FieldStart::At(start) => FieldWithStart::Is(
+            field_blocks::resolved(sheet::block(s, i)),
+            start,
+        ),
+        FieldStart::None => FieldWithStart::None,
     }
 }
 
 // A length slot.
-pub fn length_slot(s: &[u8], slot: u8) -> LengthSlot
-    ensures { λ r. ⌜ SlotSays (now (s .entry)) slot r ⌝ }
+pub fn unchecked_length_slot(s: &[u8], slot: u8) -> LengthSlot
+    ensures { λ r. ⌜ LengthSlotOf (now (s .entry)) slot r ⌝ }
 {
     let given = slots::slot_of(s, slot);
     let held = given.held;
@@ -127,7 +129,7 @@ pub fn length_slot(s: &[u8], slot: u8) -> LengthSlot
 }
 
 fn entry_block(s: &[u8], k: usize) -> EntryBlock
-    ensures { λ r. ⌜ blockIn r ≡ entryBlock (now (s .entry)) k ⌝ }
+    ensures { λ r. ⌜ entryBlockSays r ≡ entryBlock (now (s .entry)) k ⌝ }
 {
     let n = sheet::block_counts(s);
     if k < n.conds {
@@ -137,26 +139,26 @@ fn entry_block(s: &[u8], k: usize) -> EntryBlock
 }
 
 // Entry k of the conditions.
-pub fn cond_entry(s: &[u8], k: usize) -> EntryAt
-    ensures { λ r. ⌜ entryIn r ≡ condEntry (now (s .entry)) k ⌝ }
+pub fn unchecked_cond_entry(s: &[u8], k: usize) -> EntryAt
+    ensures { λ r. ⌜ entryAtSays r ≡ condEntry (now (s .entry)) k ⌝ }
 {
     let EntryBlock::At(block) = entry_block(s, k) else {
         return EntryAt::None;
     };
     let b = sheet::block(s, block);
-    match header::field_named(s, name(b)) {
+    match header::unchecked_field_named(s, name(b)) {
         FieldIndex::At(field) => EntryAt::At(CondEntry {
             block,
             field,
-            ranges: byte_at(b, 66),
+            ranges: blocks::range_count(b),
         }),
         FieldIndex::None => EntryAt::None,
     }
 }
 
 // The first and the last number of range j of entry k, cut at the field's largest value.
-pub fn cond_range(s: &[u8], k: usize, j: u8) -> FirstLast
-    ensures { λ r. ⌜ numbersOf r ≡ condRange (now (s .entry)) k j ⌝ }
+pub fn unchecked_cond_range(s: &[u8], k: usize, j: u8) -> FirstLast
+    ensures { λ r. ⌜ firstLastSays r ≡ condRange (now (s .entry)) k j ⌝ }
 {
     match entry_block(s, k) {
         EntryBlock::At(block) => cond::range_numbers(s, block, j),

@@ -7,7 +7,7 @@ use native.Mathlib.Nat.{mul-le-mul-right}
 use native.Mathlib.Omega.{arith}
 use Rattle.expr.specs.declared.UsableAlgExpr.{UsableAlgExpr}
 use Rattle.expr.specs.Forms.{_then_, plus, times, forward}
-use Rattle.expr.proofs.Laws.{fits-is, then-is}
+use Rattle.expr.proofs.WayBack.{fits-is, then-is}
 
 abbrev pub Grows : (ℕ → Option ℕ) → Type 0
 Grows step = (x y most : ℕ) → x ≤ y → step y ≡ some most → (n : ℕ) × (step x ≡ some n) × (n ≤ most)

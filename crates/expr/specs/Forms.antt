@@ -6,14 +6,14 @@ use mathlib.Core.Option.{Option, none, some}
 use Prim.Native.Nat.{ℕ, _+_, _-_, _*_, _/_, _%_, _^_}
 use lib.Dec.{ltb, eqb}
 use Rattle.expr.specs.declared.UsableAlgExpr.{UsableAlgExpr}
-use Rattle.expr.specs.declared.Value.{Value}
+use Rattle.expr.specs.declared.MaybeNumber.{MaybeNumber}
 use Rattle.expr.specs.declared.Length.{Length}
 
 -- ---- forward
 
 -- a step's number, and none where it passes 2^64 - 1
-unfoldable pub fits : ℕ → Option ℕ
-fits n = cond (ltb n (2 ^ 64)) (some n) none
+unfoldable pub in64Bits : ℕ → Option ℕ
+in64Bits n = cond (ltb n (2 ^ 64)) (some n) none
 
 -- one step after another: none where the first gives none
 infixl 20 _then_
@@ -22,10 +22,10 @@ some n then step = step n
 none then step = none
 
 abbrev pub plus : ℕ → ℕ → Option ℕ
-plus a n = fits (n + a)
+plus a n = in64Bits (n + a)
 
 abbrev pub times : ℕ → ℕ → Option ℕ
-times m n = fits (n * m)
+times m n = in64Bits (n * m)
 
 -- x; x + a; x * m; (x + a) * m; x * m + a
 abbrev pub forward : UsableAlgExpr → ℕ → Option ℕ
@@ -65,10 +65,10 @@ back (UsableAlgExpr.MultAdd m a) y = less a y then over m
 
 -- ---- what the program's answers say
 
-abbrev pub valueOf : Value → Option ℕ
-valueOf (Value.Is n) = some n
-valueOf Value.None = none
+abbrev pub maybeNumberSays : MaybeNumber → Option ℕ
+maybeNumberSays (MaybeNumber.Is n) = some n
+maybeNumberSays MaybeNumber.None = none
 
-abbrev pub lengthOf : Length → Option ℕ
-lengthOf (Length.Is n) = some (n .0)
-lengthOf Length.None = none
+abbrev pub lengthSays : Length → Option ℕ
+lengthSays (Length.Is n) = some (n .0)
+lengthSays Length.None = none

@@ -2,7 +2,7 @@
 // The name of the field stays in the block that has the expression.
 use number::Bytes;
 ghost use mathlib.Core.Path.{_≡_};
-ghost use Rattle.expr.specs.Forms.{_then_, plus as plusOf, times as timesOf, less as lessOf, over as overOf, forward as forwardOf, Back, valueOf, lengthOf};
+ghost use Rattle.expr.specs.Forms.{_then_, plus as plusOf, times as timesOf, less as lessOf, over as overOf, forward as forwardOf, Back, maybeNumberSays, lengthSays};
 
 pub enum UsableAlgExpr {
     // x
@@ -18,7 +18,7 @@ pub enum UsableAlgExpr {
 }
 
 // A number of 64 bits, where there is one.
-pub enum Value {
+pub enum MaybeNumber {
     Is(u64),
     None,
 }
@@ -29,76 +29,76 @@ pub enum Length {
     None,
 }
 
-impl Value {
-    fn plus(self, a: u64) -> Value
-        ensures { λ r. ⌜ valueOf r ≡ (valueOf self then plusOf a) ⌝ }
+impl MaybeNumber {
+    fn plus(self, a: u64) -> MaybeNumber
+        ensures { λ r. ⌜ maybeNumberSays r ≡ (maybeNumberSays self then plusOf a) ⌝ }
     {
-        let Value::Is(n) = self else {
-            return Value::None;
+        let MaybeNumber::Is(n) = self else {
+            return MaybeNumber::None;
         };
-        if 18446744073709551615 - n < a {
-            return Value::None;
+        if u64::MAX - n < a {
+            return MaybeNumber::None;
         }
-        Value::Is(n + a)
+        MaybeNumber::Is(n + a)
     }
 
-    fn times(self, m: u64) -> Value
-        ensures { λ r. ⌜ valueOf r ≡ (valueOf self then timesOf m) ⌝ }
+    fn times(self, m: u64) -> MaybeNumber
+        ensures { λ r. ⌜ maybeNumberSays r ≡ (maybeNumberSays self then timesOf m) ⌝ }
     {
-        let Value::Is(n) = self else {
-            return Value::None;
+        let MaybeNumber::Is(n) = self else {
+            return MaybeNumber::None;
         };
         if m == 0 {
-            return Value::Is(0);
+            return MaybeNumber::Is(0);
         }
-        if 18446744073709551615 / m < n {
-            return Value::None;
+        if u64::MAX / m < n {
+            return MaybeNumber::None;
         }
-        Value::Is(n * m)
+        MaybeNumber::Is(n * m)
     }
 
-    fn less(self, a: u64) -> Value
-        ensures { λ r. ⌜ valueOf r ≡ (valueOf self then lessOf a) ⌝ }
+    fn less(self, a: u64) -> MaybeNumber
+        ensures { λ r. ⌜ maybeNumberSays r ≡ (maybeNumberSays self then lessOf a) ⌝ }
     {
-        let Value::Is(n) = self else {
-            return Value::None;
+        let MaybeNumber::Is(n) = self else {
+            return MaybeNumber::None;
         };
         if n < a {
-            return Value::None;
+            return MaybeNumber::None;
         }
-        Value::Is(n - a)
+        MaybeNumber::Is(n - a)
     }
 
-    fn over(self, m: u64) -> Value
-        ensures { λ r. ⌜ valueOf r ≡ (valueOf self then overOf m) ⌝ }
+    fn over(self, m: u64) -> MaybeNumber
+        ensures { λ r. ⌜ maybeNumberSays r ≡ (maybeNumberSays self then overOf m) ⌝ }
     {
-        let Value::Is(n) = self else {
-            return Value::None;
+        let MaybeNumber::Is(n) = self else {
+            return MaybeNumber::None;
         };
         if m == 0 {
-            return Value::None;
+            return MaybeNumber::None;
         }
         if n % m != 0 {
-            return Value::None;
+            return MaybeNumber::None;
         }
-        Value::Is(n / m)
+        MaybeNumber::Is(n / m)
     }
 
     fn in_bytes(self) -> Length
-        ensures { λ r. ⌜ lengthOf r ≡ valueOf self ⌝ }
+        ensures { λ r. ⌜ lengthSays r ≡ maybeNumberSays self ⌝ }
     {
         match self {
-            Value::Is(n) => Length::Is(Bytes(n)),
-            Value::None => Length::None,
+            MaybeNumber::Is(n) => Length::Is(Bytes(n)),
+            MaybeNumber::None => Length::None,
         }
     }
 }
 
 impl UsableAlgExpr {
-    fn forward(self, x: u64) -> Value
-        ensures { λ r. ⌜ valueOf r ≡ forwardOf self x ⌝ }
+    fn forward(self, x: u64) -> MaybeNumber
+        ensures { λ r. ⌜ maybeNumberSays r ≡ forwardOf self x ⌝ }
     {
-        let x = Value::Is(x);
+        let x = MaybeNumber::Is(x);
         match self {
             UsableAlgExpr::IdentOnly => x,
             UsableAlgExpr::SimpleAdd(a) => x.plus(a),
@@ -108,10 +108,10 @@ impl UsableAlgExpr {
         }
     }
 
-    fn back(self, y: u64) -> Value
-        ensures { λ r. ⌜ Back self y (valueOf r) ⌝ }
+    fn back(self, y: u64) -> MaybeNumber
+        ensures { λ r. ⌜ Back self y (maybeNumberSays r) ⌝ }
     {
-        let y = Value::Is(y);
+        let y = MaybeNumber::Is(y);
         match self {
             UsableAlgExpr::IdentOnly => y,
             UsableAlgExpr::SimpleAdd(a) => y.less(a),
@@ -123,14 +123,14 @@ impl UsableAlgExpr {
 
     // The length of a field's value; none where a step passes 2^64 - 1.
     pub fn exec(self, x: u64) -> Length
-        ensures { λ r. ⌜ lengthOf r ≡ forwardOf self x ⌝ }
+        ensures { λ r. ⌜ lengthSays r ≡ forwardOf self x ⌝ }
     {
         self.forward(x).in_bytes()
     }
 
     // The value whose length this is; none where there is no such value, or a multiplier is 0.
-    pub fn reverse_exec(self, y: Bytes) -> Value
-        ensures { λ r. ⌜ Back self (y .0) (valueOf r) ⌝ }
+    pub fn reverse_exec(self, y: Bytes) -> MaybeNumber
+        ensures { λ r. ⌜ Back self (y .0) (maybeNumberSays r) ⌝ }
     {
         self.back(y.0)
     }

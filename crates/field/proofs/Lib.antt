@@ -1,2 +1,2 @@
-pub mod Laws
+pub mod Inferred
 pub mod Sound

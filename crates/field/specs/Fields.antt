@@ -4,7 +4,7 @@ use mathlib.Core.Option.{Option, none, some}
 use Prim.Native.Nat.{ℕ, _/_, _%_}
 use lib.Dec.{leb, ltb, eqb}
 use Rattle.answer.specs.declared.Group.{Group}
-use Rattle.answer.specs.Paper.{Answer, gives, Check, accepted, paperOf, refuse, _andThen_}
+use Rattle.answer.specs.Paper.{Answer, gives, Check, accepted, refusalSays, refuse, _andThen_}
 use Rattle.number.specs.Numbers.{maxBits, maxValue}
 use Rattle.types.specs.declared.BuiltinTypes.{BuiltinTypes}
 use Rattle.types.specs.declared.Arg.{Arg}
@@ -70,9 +70,9 @@ abbrev pub badArg : ℕ → BuiltinTypes → Arg → Bool
 badArg bits repr (Arg.BuiltinTypes t) = not (sameType t repr) && not (isBoolType t && eqb bits 1)
 badArg bits repr Arg.Code = false
 
-abbrev pub isBool : Arg → Bool
-isBool (Arg.BuiltinTypes t) = isBoolType t
-isBool Arg.Code = false
+abbrev pub isBoolArg : Arg → Bool
+isBoolArg (Arg.BuiltinTypes t) = isBoolType t
+isBoolArg Arg.Code = false
 
 -- field 4: a default that is not the number 0 or 1
 abbrev pub badBool : DefaultVal → Bool
@@ -87,12 +87,12 @@ badBytes bits (DefaultVal.Bool b) = true
 badBytes bits (DefaultVal.Bytes s) = not (eqb (s .len) (bits / 8))
 
 -- field 6: a default that is not a number within the width
-abbrev pub over : ℕ → Option ℕ → Bool
-over n (some most) = ltb most n
-over n none = true
+abbrev pub overLargest : ℕ → Option ℕ → Bool
+overLargest n (some most) = ltb most n
+overLargest n none = true
 
 abbrev pub badNumber : ℕ → DefaultVal → Bool
-badNumber bits (DefaultVal.Num n) = over n (maxValue bits)
+badNumber bits (DefaultVal.Num n) = overLargest n (maxValue bits)
 badNumber bits (DefaultVal.Bool b) = true
 badNumber bits (DefaultVal.Bytes s) = true
 
@@ -107,7 +107,7 @@ fixedBytes (DefaultVal.Bytes s) fixed = fixed
 -- field 4 for a bool arg, 5 for a byte slice, 6 otherwise
 abbrev pub valueCheck : ℕ → ℕ → BuiltinTypes → Arg → DefaultVal → Check
 valueCheck place bits repr arg d =
-    cond (isBool arg) (refuse (badBool d) Group.Field 4 place)
+    cond (isBoolArg arg) (refuse (badBool d) Group.Field 4 place)
     (cond (isSlice repr) (refuse (badBytes bits d) Group.Field 5 place)
     (refuse (badNumber bits d) Group.Field 6 place))
 
@@ -131,7 +131,7 @@ abbrev pub fieldOf : ℕ → DefinedRepr → DefinedArg → DefinedDefault → D
 fieldOf bits repr arg default gen =
     let type = reprOf bits repr in
     record {
-      bit = record { 0 = bits };
+      width = record { 0 = bits };
       repr = type;
       arg = argOf type arg;
       default = defaultOf type default;
@@ -144,9 +144,9 @@ abbrev pub newField : ℕ → ℕ → DefinedRepr → DefinedArg → DefinedDefa
 newField place bits repr arg default gen = fieldCheck place bits repr arg default andThen gives (fieldOf bits repr arg default gen)
 
 -- what the program's answer says
-abbrev pub fieldAnswer : NewField → Answer Field
-fieldAnswer (NewField.Is f) = gives f
-fieldAnswer (NewField.Refused r) = paperOf r
+abbrev pub newFieldSays : NewField → Answer Field
+newFieldSays (NewField.Is f) = gives f
+newFieldSays (NewField.Refused r) = refusalSays r
 
 -- ---- the write guard
 
@@ -161,4 +161,4 @@ reprBytes bits BuiltinTypes.Bool = 1
 
 -- fixed, or bits no multiple of 8, or bits / 8 not the repr's byte size
 abbrev pub writeGuard : Field → Bool
-writeGuard f = let bits = f .bit .0 in f .fixed || not (eqb (bits % 8) 0) || not (eqb (bits / 8) (reprBytes bits (f .repr)))
+writeGuard f = let bits = f .width .0 in f .fixed || not (eqb (bits % 8) 0) || not (eqb (bits / 8) (reprBytes bits (f .repr)))

@@ -10,7 +10,7 @@ use Rattle.field.specs.declared.DefaultVal.{DefaultVal}
 use Rattle.field.specs.declared.Field.{Field}
 
 abbrev pub widthOf : Field → ℕ
-widthOf f = f .bit .0
+widthOf f = f .width .0
 
 pub record Sound (f : Field) : Type 0 where
   -- from 1 to 33,554,424 bits

@@ -10,10 +10,10 @@ use types::Arg;
 use types::BuiltinTypes;
 ghost use mathlib.Core.Path.{_≡_};
 ghost use Rattle.answer.specs.declared.Group.{Group};
-ghost use Rattle.answer.specs.Paper.{fieldNumber, paper, refuse as refusedIf};
-ghost use Rattle.number.specs.Numbers.{valueOf};
+ghost use Rattle.answer.specs.Paper.{fieldNumber, verdictSays, refuse as refusedIf};
+ghost use Rattle.number.specs.Numbers.{maxValueSays};
 ghost use Rattle.types.specs.Types.{isBoolType};
-ghost use Rattle.field.specs.Fields.{inferRepr, reprOf, argOf, inferDefault, defaultOf, fixedOf, genOf, badWidth, badRepr, badArg, isBool, badBool, badBytes, over, badNumber, fixedBytes, valueCheck, defaultCheck, fieldCheck, fieldOf, newField, fieldAnswer, reprBytes, writeGuard};
+ghost use Rattle.field.specs.Fields.{inferRepr, reprOf, argOf, inferDefault, defaultOf, fixedOf, genOf, badWidth, badRepr, badArg, isBoolArg, badBool, badBytes, overLargest, badNumber, fixedBytes, valueCheck, defaultCheck, fieldCheck, fieldOf, newField, newFieldSays, reprBytes, writeGuard};
 
 // A stretch of bytes in the block of a field.
 pub struct Span {
@@ -52,7 +52,7 @@ pub enum DefinedGen {
 
 // A field with every item resolved.
 pub struct Field {
-    pub bit: Bits,
+    pub width: Bits,
     // how it is held
     pub repr: BuiltinTypes,
     // how it is handed over
@@ -70,29 +70,29 @@ pub enum NewField {
 
 // ---- what an absent item stands for
 
-fn infer_repr(bit: Bits) -> BuiltinTypes
-    ensures { λ r. ⌜ r ≡ inferRepr (bit .0) ⌝ }
+fn infer_repr(width: Bits) -> BuiltinTypes
+    ensures { λ r. ⌜ r ≡ inferRepr (width .0) ⌝ }
 {
-    if bit.0 <= 8 {
+    if width.0 <= 8 {
         return BuiltinTypes::U8;
     }
-    if bit.0 <= 16 {
+    if width.0 <= 16 {
         return BuiltinTypes::U16;
     }
-    if bit.0 <= 32 {
+    if width.0 <= 32 {
         return BuiltinTypes::U32;
     }
-    if bit.0 <= 64 {
+    if width.0 <= 64 {
         return BuiltinTypes::U64;
     }
     BuiltinTypes::ByteSlice
 }
 
-fn repr_or_inferred(bit: Bits, repr: DefinedRepr) -> BuiltinTypes
-    ensures { λ r. ⌜ r ≡ reprOf (bit .0) repr ⌝ }
+fn repr_or_inferred(width: Bits, repr: DefinedRepr) -> BuiltinTypes
+    ensures { λ r. ⌜ r ≡ reprOf (width .0) repr ⌝ }
 {
     match repr {
-        DefinedRepr::Absent => infer_repr(bit),
+        DefinedRepr::Absent => infer_repr(width),
         DefinedRepr::Given(t) => t,
     }
 }
@@ -152,31 +152,31 @@ fn is_bool_type(t: BuiltinTypes) -> bool
 }
 
 // Field 1: a width that no field may have.
-fn bad_width(bit: Bits) -> bool
-    ensures { λ r. ⌜ r ≡ badWidth (bit .0) ⌝ }
+fn bad_width(width: Bits) -> bool
+    ensures { λ r. ⌜ r ≡ badWidth (width .0) ⌝ }
 {
-    (bit.0 == 0) | ((64 < bit.0) & !bit.is_whole_bytes()) | bit.over_max()
+    (width.0 == 0) | ((64 < width.0) & !width.is_whole_bytes()) | width.over_max()
 }
 
 // Field 2: neither the inferred type nor a byte slice of whole bytes.
-fn bad_repr(bit: Bits, repr: BuiltinTypes) -> bool
-    ensures { λ r. ⌜ r ≡ badRepr (bit .0) repr ⌝ }
+fn bad_repr(width: Bits, repr: BuiltinTypes) -> bool
+    ensures { λ r. ⌜ r ≡ badRepr (width .0) repr ⌝ }
 {
-    !repr.same_type(infer_repr(bit)) & !(repr.is_slice() & (8 < bit.0) & bit.is_whole_bytes())
+    !repr.same_type(infer_repr(width)) & !(repr.is_slice() & (8 < width.0) & width.is_whole_bytes())
 }
 
 // Field 3: neither the repr, nor bool on 1 bit, nor code.
-fn bad_arg(bit: Bits, repr: BuiltinTypes, arg: Arg) -> bool
-    ensures { λ r. ⌜ r ≡ badArg (bit .0) repr arg ⌝ }
+fn bad_arg(width: Bits, repr: BuiltinTypes, arg: Arg) -> bool
+    ensures { λ r. ⌜ r ≡ badArg (width .0) repr arg ⌝ }
 {
     match arg {
-        Arg::BuiltinTypes(t) => !t.same_type(repr) & !(is_bool_type(t) & (bit.0 == 1)),
+        Arg::BuiltinTypes(t) => !t.same_type(repr) & !(is_bool_type(t) & (width.0 == 1)),
         Arg::Code => false,
     }
 }
 
 fn is_bool(arg: Arg) -> bool
-    ensures { λ r. ⌜ r ≡ isBool arg ⌝ }
+    ensures { λ r. ⌜ r ≡ isBoolArg arg ⌝ }
 {
     match arg {
         Arg::BuiltinTypes(t) => is_bool_type(t),
@@ -196,19 +196,19 @@ fn bad_bool(d: DefaultVal) -> bool
 }
 
 // Field 5: not as many bytes as the field has.
-fn bad_bytes(bit: Bits, d: DefaultVal) -> bool
-    ensures { λ r. ⌜ r ≡ badBytes (bit .0) d ⌝ }
+fn bad_bytes(width: Bits, d: DefaultVal) -> bool
+    ensures { λ r. ⌜ r ≡ badBytes (width .0) d ⌝ }
 {
     match d {
         DefaultVal::Num(_) => true,
         DefaultVal::Bool(_) => true,
-        DefaultVal::Bytes(s) => (s.len as u64) != bit.whole_bytes().0,
+        DefaultVal::Bytes(s) => (s.len as u64) != width.whole_bytes().0,
     }
 }
 
 // Whether a number is over the largest value.
 fn is_over(n: u64, most: MaxValue) -> bool
-    ensures { λ r. ⌜ r ≡ over n (valueOf most) ⌝ }
+    ensures { λ r. ⌜ r ≡ overLargest n (maxValueSays most) ⌝ }
 {
     match most {
         MaxValue::Is(m) => m < n,
@@ -217,11 +217,11 @@ fn is_over(n: u64, most: MaxValue) -> bool
 }
 
 // Field 6: no number within the width.
-fn bad_number(bit: Bits, d: DefaultVal) -> bool
-    ensures { λ r. ⌜ r ≡ badNumber (bit .0) d ⌝ }
+fn bad_number(width: Bits, d: DefaultVal) -> bool
+    ensures { λ r. ⌜ r ≡ badNumber (width .0) d ⌝ }
 {
     match d {
-        DefaultVal::Num(n) => is_over(n, number::max_value(bit)),
+        DefaultVal::Num(n) => is_over(n, number::max_value(width)),
         DefaultVal::Bool(_) => true,
         DefaultVal::Bytes(_) => true,
     }
@@ -242,26 +242,26 @@ fn fixed_bytes(d: DefaultVal, fixed: bool) -> bool
 
 // Refused for this reason where the test holds.
 fn refuse(test: bool, fault: FieldFault, place: usize) -> Verdict
-    ensures { λ r. ⌜ paper r ≡ refusedIf test Group.Field (fieldNumber fault) place ⌝ }
+    ensures { λ r. ⌜ verdictSays r ≡ refusedIf test Group.Field (fieldNumber fault) place ⌝ }
 {
     Verdict::refuse(test, Refusal::Field(fault, place))
 }
 
-fn check_value(place: usize, bit: Bits, repr: BuiltinTypes, arg: Arg, d: DefaultVal) -> Verdict
-    ensures { λ r. ⌜ paper r ≡ valueCheck place (bit .0) repr arg d ⌝ }
+fn check_value(place: usize, width: Bits, repr: BuiltinTypes, arg: Arg, d: DefaultVal) -> Verdict
+    ensures { λ r. ⌜ verdictSays r ≡ valueCheck place (width .0) repr arg d ⌝ }
 {
     if is_bool(arg) {
         return refuse(bad_bool(d), FieldFault::BoolDefaultNotZeroOrOne, place);
     }
     if repr.is_slice() {
         return refuse(
-            bad_bytes(bit, d),
+            bad_bytes(width, d),
             FieldFault::SliceDefaultNotItsBytes,
             place,
         );
     }
     refuse(
-        bad_number(bit, d),
+        bad_number(width, d),
         FieldFault::NumberDefaultNotInWidth,
         place,
     )
@@ -269,17 +269,17 @@ fn check_value(place: usize, bit: Bits, repr: BuiltinTypes, arg: Arg, d: Default
 
 fn check_default(
     place: usize,
-    bit: Bits,
+    width: Bits,
     repr: BuiltinTypes,
     arg: Arg,
     default: DefinedDefault,
 ) -> Verdict
-    ensures { λ r. ⌜ paper r ≡ defaultCheck place (bit .0) repr arg default ⌝ }
+    ensures { λ r. ⌜ verdictSays r ≡ defaultCheck place (width .0) repr arg default ⌝ }
 {
     let DefinedDefault::Given(d, fixed) = default else {
         return Verdict::Accepted;
     };
-    let value = check_value(place, bit, repr, arg, d);
+    let value = check_value(place, width, repr, arg, d);
     let fixing = refuse(fixed_bytes(d, fixed), FieldFault::BytesDefaultFixed, place);
     value.and_then(fixing)
 }
@@ -287,32 +287,32 @@ fn check_default(
 // Field 1 to 7 of the items, in order; a refusal has the place given.
 pub fn check_items(
     place: usize,
-    bit: Bits,
+    width: Bits,
     repr: DefinedRepr,
     arg: DefinedArg,
     default: DefinedDefault,
 ) -> Verdict
-    ensures { λ r. ⌜ paper r ≡ fieldCheck place (bit .0) repr arg default ⌝ }
+    ensures { λ r. ⌜ verdictSays r ≡ fieldCheck place (width .0) repr arg default ⌝ }
 {
-    let t = repr_or_inferred(bit, repr);
+    let t = repr_or_inferred(width, repr);
     let a = arg_or_repr(t, arg);
-    let width = refuse(bad_width(bit), FieldFault::WidthNotAllowed, place);
-    let held = refuse(bad_repr(bit, t), FieldFault::ReprNotAllowed, place);
-    let handed = refuse(bad_arg(bit, t, a), FieldFault::ArgNotAllowed, place);
-    let value = check_default(place, bit, t, a, default);
-    width.and_then(held.and_then(handed.and_then(value)))
+    let wide = refuse(bad_width(width), FieldFault::WidthNotAllowed, place);
+    let held = refuse(bad_repr(width, t), FieldFault::ReprNotAllowed, place);
+    let handed = refuse(bad_arg(width, t, a), FieldFault::ArgNotAllowed, place);
+    let value = check_default(place, width, t, a, default);
+    wide.and_then(held.and_then(handed.and_then(value)))
 }
 
 // The bytes of a repr.
-fn repr_bytes(bit: Bits, repr: BuiltinTypes) -> Bytes
-    ensures { λ r. ⌜ r .0 ≡ reprBytes (bit .0) repr ⌝ }
+fn repr_bytes(width: Bits, repr: BuiltinTypes) -> Bytes
+    ensures { λ r. ⌜ r .0 ≡ reprBytes (width .0) repr ⌝ }
 {
     match repr {
         BuiltinTypes::U8 => Bytes(1),
         BuiltinTypes::U16 => Bytes(2),
         BuiltinTypes::U32 => Bytes(4),
         BuiltinTypes::U64 => Bytes(8),
-        BuiltinTypes::ByteSlice => bit.whole_bytes(),
+        BuiltinTypes::ByteSlice => width.whole_bytes(),
         BuiltinTypes::Bool => Bytes(1),
     }
 }
@@ -320,48 +320,48 @@ fn repr_bytes(bit: Bits, repr: BuiltinTypes) -> Bytes
 impl Field {
     // The field of five items, as the Rust's `Field::new`; alone a refusal has place 0.
     pub fn new(
-        bit: Bits,
+        width: Bits,
         repr: DefinedRepr,
         arg: DefinedArg,
         default: DefinedDefault,
         generate: DefinedGen,
     ) -> NewField
-        ensures { λ r. ⌜ fieldAnswer r ≡ newField 0 (bit .0) repr arg default generate ⌝ }
+        ensures { λ r. ⌜ newFieldSays r ≡ newField 0 (width .0) repr arg default generate ⌝ }
     {
-        Field::new_at(0, bit, repr, arg, default, generate)
+        Field::new_at(0, width, repr, arg, default, generate)
     }
 
     // The same with a place of its own.
     pub fn new_at(
         place: usize,
-        bit: Bits,
+        width: Bits,
         repr: DefinedRepr,
         arg: DefinedArg,
         default: DefinedDefault,
         generate: DefinedGen,
     ) -> NewField
-        ensures { λ r. ⌜ fieldAnswer r ≡ newField place (bit .0) repr arg default generate ⌝ }
+        ensures { λ r. ⌜ newFieldSays r ≡ newField place (width .0) repr arg default generate ⌝ }
     {
-        let v = check_items(place, bit, repr, arg, default);
+        let v = check_items(place, width, repr, arg, default);
         if let Verdict::Refused(reason) = v {
             return NewField::Refused(reason);
         }
-        NewField::Is(Field::resolved(bit, repr, arg, default, generate))
+        NewField::Is(Field::resolved(width, repr, arg, default, generate))
     }
 
     // Every absent item replaced by what it stands for; nothing is checked.
     pub fn resolved(
-        bit: Bits,
+        width: Bits,
         repr: DefinedRepr,
         arg: DefinedArg,
         default: DefinedDefault,
         generate: DefinedGen,
     ) -> Field
-        ensures { λ r. ⌜ r ≡ fieldOf (bit .0) repr arg default generate ⌝ }
+        ensures { λ r. ⌜ r ≡ fieldOf (width .0) repr arg default generate ⌝ }
     {
-        let t = repr_or_inferred(bit, repr);
+        let t = repr_or_inferred(width, repr);
         Field {
-            bit,
+            width,
             repr: t,
             arg: arg_or_repr(t, arg),
             default: default_or_zero(t, default),
@@ -374,8 +374,8 @@ impl Field {
     pub fn need_write_guard(self) -> bool
         ensures { λ r. ⌜ r ≡ writeGuard self ⌝ }
     {
-        let bit = self.bit;
+        let width = self.width;
         let repr = self.repr;
-        self.fixed | !bit.is_whole_bytes() | (bit.whole_bytes().0 != repr_bytes(bit, repr).0)
+        self.fixed | !width.is_whole_bytes() | (width.whole_bytes().0 != repr_bytes(width, repr).0)
     }
 }

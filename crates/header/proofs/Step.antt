@@ -1,60 +1,39 @@
--- Step 3 in the cases that `Header::new` meets, what a field that passed it holds, and that its answer is one. Assumes nothing.
+-- Step 3 in the cases that `Header::new` meets, and that its answer is one. Assumes nothing.
 use mathlib.Core.Path.{_≡_, ap}
-use mathlib.Core.Bool.{Bool, true, false}
+use mathlib.Core.Bool.{true, false}
 use mathlib.Core.List.{List}
-use Prim.Native.Nat.{ℕ, _+_, _/_, _%_, _≤_, _<_}
-use native.Mathlib.Omega.{arith}
+use Prim.Native.Nat.{ℕ, _/_, _%_, _<_}
 use lib.Dec.{eqb}
 use Rattle.answer.specs.declared.Group.{Group}
 use Rattle.answer.specs.Paper.{gives, refused, accepted, first}
-use Rattle.answer.proofs.Laws.{both-is, refuse-is, stand, first-stop}
-use Rattle.answer.proofs.Tests.{leb-is-not}
-use Rattle.answer.proofs.OneToOne.{paperOf-one}
-use Rattle.number.specs.Numbers.{maxBytes}
+use Rattle.answer.proofs.Chains.{stand, first-stop}
+use Rattle.answer.proofs.OneToOne.{refusal-one}
 use Rattle.sheet.specs.Blocks.{blockCount, fieldCount}
-use Rattle.field.specs.declared.Field.{Field}
-use Rattle.field.specs.Sound.{widthOf}
 use Rattle.header.specs.declared.NewHeader.{NewHeader}
-use Rattle.header.specs.Names.{isReserved}
-use Rattle.header.specs.Places.{bitsOf}
-use Rattle.header.specs.Step.{overEight, offBoundary, faultsOf, fieldFault, headerCheck, headerOf, newHeader, headerAnswer}
-
--- ---- one field: what its five tests say where none refuses
-
-pub record Passed (used : Bool) (name : List ℕ) (start : ℕ) (f : Field) : Type 0 where
-  pub new-name : used ≡ false
-  pub free-name : isReserved name ≡ false
-  pub eight : overEight start (widthOf f) ≡ false
-  pub boundary : offBoundary start (f .repr) ≡ false
-  pub short : (start + widthOf f) / 8 ≤ maxBytes
-
-pub passed-all : (used : Bool) (name : List ℕ) (start : ℕ) (f : Field) (i : ℕ) → faultsOf used name start f i ≡ accepted → Passed used name start f
-unfolding faultsOf
-passed-all used name start f i e =
-    let p = simp (both-is, refuse-is, leb-is-not) at e in
-    record { new-name = p .0; free-name = p .1 .0; eight = p .1 .1 .0; boundary = p .1 .1 .1 .0; short = omega (arith, p .1 .1 .1 .1) }
+use Rattle.header.specs.Starts.{startAt}
+use Rattle.header.specs.Step.{headerFault, headerCheck, newHeader, newHeaderSays}
 
 -- ---- all fields
 
-module _ (s : List ℕ) where
-  -- the first field that is refused
-  pub new-stops : (i : ℕ) {g : Group} {n at : ℕ} → i < fieldCount s → first (fieldFault s) i ≡ accepted → fieldFault s i ≡ refused g n at → newHeader s ≡ refused g n at
-  unfolding headerCheck
-  new-stops i h before e = stand _ (stand _ (first-stop (fieldFault s) i (fieldCount s) h before e))
+-- the first field that is refused
+pub new-stops : (s : List ℕ) (i : ℕ) {g : Group} {n at : ℕ} → i < fieldCount s → first (headerFault s) i ≡ accepted → headerFault s i ≡ refused g n at → newHeader s ≡ refused g n at
+unfolding headerCheck
+new-stops s i h before e = stand _ (stand _ (first-stop (headerFault s) i (fieldCount s) h before e))
 
-  -- past all fields header 6 decides
-  pub new-odd : first (fieldFault s) (fieldCount s) ≡ accepted → eqb (bitsOf s % 8) 0 ≡ false → newHeader s ≡ refused Group.Header 6 (blockCount s)
+-- past all fields header 6 decides
+module _ (s : List ℕ) (i : ℕ) {bits : ℕ} (all : i ≡ fieldCount s) (ok : first (headerFault s) i ≡ accepted) (sum : bits ≡ startAt s i) where
+  pub new-odd : eqb (bits % 8) 0 ≡ false → newHeader s ≡ refused Group.Header 6 (blockCount s)
   unfolding headerCheck
-  new-odd all e = rw (all, e)
+  new-odd e = rw (← all, ok, ← sum, e)
 
-  pub new-whole : first (fieldFault s) (fieldCount s) ≡ accepted → eqb (bitsOf s % 8) 0 ≡ true → newHeader s ≡ gives (headerOf s)
+  pub new-whole : {n len : ℕ} → eqb (bits % 8) 0 ≡ true → n ≡ fieldCount s → len ≡ bits / 8 → newHeader s ≡ gives (record { fields = n; len = record { 0 = len } })
   unfolding headerCheck
-  new-whole all e = rw (all, e)
+  new-whole e p q = rw (p, q, ← all, ok, ← sum, e)
 
 -- ---- one answer: what the program's answer says of a header tells answers apart
 
-pub header-answer-one : (p q : NewHeader) → headerAnswer p ≡ headerAnswer q → p ≡ q
-header-answer-one (NewHeader.Is h) (NewHeader.Is k) e = cc
-header-answer-one (NewHeader.Is h) (NewHeader.Refused r) e = cc
-header-answer-one (NewHeader.Refused r) (NewHeader.Is h) e = cc
-header-answer-one (NewHeader.Refused r) (NewHeader.Refused q) e = ap NewHeader.Refused (paperOf-one r q e)
+pub new-header-one : (p q : NewHeader) → newHeaderSays p ≡ newHeaderSays q → p ≡ q
+new-header-one (NewHeader.Is h) (NewHeader.Is k) e = cc
+new-header-one (NewHeader.Is h) (NewHeader.Refused r) e = cc
+new-header-one (NewHeader.Refused r) (NewHeader.Is h) e = cc
+new-header-one (NewHeader.Refused r) (NewHeader.Refused q) e = ap NewHeader.Refused (refusal-one r q e)

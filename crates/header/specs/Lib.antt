@@ -1,4 +1,5 @@
 pub mod Names
-pub mod Places
+pub mod Starts
 pub mod Step
-pub mod Laid
+pub mod HeaderIs
+pub mod Working

@@ -4,20 +4,19 @@ use mathlib.Core.List.{List}
 use Prim.Native.Nat.{ℕ, _+_, _/_, _%_}
 use lib.Dec.{leb, ltb, eqb}
 use Rattle.answer.specs.declared.Group.{Group}
-use Rattle.answer.specs.Paper.{Answer, gives, Check, paperOf, refuse, _andThen_, first}
+use Rattle.answer.specs.Paper.{Answer, gives, Check, refusalSays, refuse, _andThen_, first}
+use Rattle.answer.specs.Walk.{isSome}
 use Rattle.number.specs.Numbers.{maxBytes}
 use Rattle.bits.specs.Bits.{touched}
 use Rattle.sheet.specs.Blocks.{blockCount, fieldCount}
-use Rattle.sheet.specs.Sheet.{isSome}
 use Rattle.types.specs.declared.BuiltinTypes.{BuiltinTypes}
 use Rattle.types.specs.Types.{isSlice}
-use Rattle.field.specs.declared.Field.{Field}
 use Rattle.field.specs.Sound.{widthOf}
-use Rattle.fields.specs.Step.{fieldAt}
+use Rattle.field_blocks.specs.Step.{fieldAt}
 use Rattle.header.specs.declared.Header.{Header}
 use Rattle.header.specs.declared.NewHeader.{NewHeader}
 use Rattle.header.specs.Names.{nameAt, namedAmong, isReserved}
-use Rattle.header.specs.Places.{startAt, bitsOf}
+use Rattle.header.specs.Starts.{startAt, bitsOf}
 
 -- header 1: a name that a field before it has
 abbrev pub usedBefore : List ℕ → ℕ → Bool
@@ -35,22 +34,19 @@ offBoundary start repr = isSlice repr && not (eqb (start % 8) 0)
 abbrev pub tooLong : ℕ → Bool
 tooLong bits = ltb maxBytes (bits / 8)
 
--- header 1 to 5 of field i, in order: whether its name was used before, its name, where it starts and what it is; header 2 is the reserved name
-unfoldable pub faultsOf : Bool → List ℕ → ℕ → Field → ℕ → Check
-faultsOf used name start f i =
-    refuse used Group.Header 1 i
-    andThen refuse (isReserved name) Group.Header 2 i
-    andThen refuse (overEight start (widthOf f)) Group.Header 3 i
-    andThen refuse (offBoundary start (f .repr)) Group.Header 4 i
-    andThen refuse (tooLong (start + widthOf f)) Group.Header 5 i
-
-abbrev pub fieldFault : List ℕ → ℕ → Check
-fieldFault s i = faultsOf (usedBefore s i) (nameAt s i) (startAt s i) (fieldAt s i) i
+-- header 1 to 5 of field i, in this order
+unfoldable pub headerFault : List ℕ → ℕ → Check
+headerFault s i =
+    refuse (usedBefore s i) Group.Header 1 i
+    andThen refuse (isReserved (nameAt s i)) Group.Header 2 i
+    andThen refuse (overEight (startAt s i) (widthOf (fieldAt s i))) Group.Header 3 i
+    andThen refuse (offBoundary (startAt s i) ((fieldAt s i) .repr)) Group.Header 4 i
+    andThen refuse (tooLong (startAt s i + widthOf (fieldAt s i))) Group.Header 5 i
 
 -- field after field; then header 6, with the block count as its place: the bits of all are no multiple of 8
 unfoldable pub headerCheck : List ℕ → Check
 headerCheck s =
-    first (fieldFault s) (fieldCount s)
+    first (headerFault s) (fieldCount s)
     andThen refuse (not (eqb (bitsOf s % 8) 0)) Group.Header 6 (blockCount s)
 
 -- ---- the header
@@ -67,6 +63,6 @@ abbrev pub newHeader : List ℕ → Answer Header
 newHeader s = headerCheck s andThen gives (headerOf s)
 
 -- what the program's answer says
-abbrev pub headerAnswer : NewHeader → Answer Header
-headerAnswer (NewHeader.Is h) = gives h
-headerAnswer (NewHeader.Refused r) = paperOf r
+abbrev pub newHeaderSays : NewHeader → Answer Header
+newHeaderSays (NewHeader.Is h) = gives h
+newHeaderSays (NewHeader.Refused r) = refusalSays r

@@ -17,15 +17,16 @@ ghost use mathlib.Core.Bool.{false};
 ghost use Prim.Native.Nat.{_+_, _-_, _≤_, _<_, _^_};
 ghost use lib.ListN.{length};
 ghost use Rattle.answer.specs.declared.Group.{Group};
-ghost use Rattle.answer.specs.Paper.{headerNumber, paper, refuse as refusedIf};
+ghost use Rattle.answer.specs.Paper.{headerNumber, verdictSays, refuse as refusedIf};
+ghost use Rattle.answer.specs.Walk.{isSome};
 ghost use Rattle.octets.specs.Octets.{be, same};
 ghost use Rattle.bits.specs.Positions.{globalOf};
 ghost use Rattle.blocks.specs.Layout.{nameOf};
-ghost use Rattle.sheet.specs.Sheet.{isSome};
-ghost use Rattle.fields.specs.Step.{fieldAt};
-ghost use Rattle.header.specs.Names.{namedAmong, fieldNamed, indexOf, keyOf, isReserved};
-ghost use Rattle.header.specs.Places.{startAt, startOf, startIn};
-ghost use Rattle.header.specs.Step.{overEight, offBoundary, tooLong, faultsOf, newHeader, headerAnswer};
+ghost use Rattle.field_blocks.specs.Step.{fieldAt};
+ghost use Rattle.header.specs.Names.{namedAmong, fieldNamed, fieldIndexSays, isReserved};
+ghost use Rattle.header.specs.Starts.{startAt, startOf, fieldStartSays};
+ghost use Rattle.header.specs.Step.{usedBefore, overEight, offBoundary, tooLong, headerFault, newHeader, newHeaderSays};
+ghost use Rattle.header.specs.Working.{keyOf};
 
 // The field that a name means, if there is one.
 pub enum FieldIndex {
@@ -60,7 +61,7 @@ fn has_name(b: &[u8], wanted: &[u8]) -> bool
 
 // The first of the first n fields that has a name.
 fn named_among(s: &[u8], wanted: &[u8], n: usize) -> FieldIndex
-    ensures { λ r. ⌜ indexOf r ≡ namedAmong (now (s .entry)) (now (wanted .entry)) n ⌝ }
+    ensures { λ r. ⌜ fieldIndexSays r ≡ namedAmong (now (s .entry)) (now (wanted .entry)) n ⌝ }
 {
     let mut i = 0;
     while i < n {
@@ -73,8 +74,8 @@ fn named_among(s: &[u8], wanted: &[u8], n: usize) -> FieldIndex
 }
 
 // The field of a name: the first that has it.
-pub fn field_named(s: &[u8], wanted: &[u8]) -> FieldIndex
-    ensures { λ r. ⌜ indexOf r ≡ fieldNamed (now (s .entry)) (now (wanted .entry)) ⌝ }
+pub fn unchecked_field_named(s: &[u8], wanted: &[u8]) -> FieldIndex
+    ensures { λ r. ⌜ fieldIndexSays r ≡ fieldNamed (now (s .entry)) (now (wanted .entry)) ⌝ }
 {
     named_among(s, wanted, sheet::block_counts(s).fields)
 }
@@ -124,9 +125,9 @@ fn is_reserved(wanted: &[u8]) -> bool
 
 // The field of F block i.
 fn field_at(s: &[u8], i: usize) -> Field
-    ensures { λ r. ⌜ (r ≡ fieldAt (now (s .entry)) i) × (r .bit .0 < 2 ^ 32) ⌝ }
+    ensures { λ r. ⌜ (r ≡ fieldAt (now (s .entry)) i) × (r .width .0 < 2 ^ 32) ⌝ }
 {
-    fields::resolved(sheet::block(s, i))
+    field_blocks::resolved(sheet::block(s, i))
 }
 
 // The bits of the first n fields together.
@@ -137,15 +138,15 @@ fn bits_before(s: &[u8], n: usize) -> Bits
     let mut sum: u64 = 0;
     let mut i = 0;
     while i < n {
-        sum += fields::bits_in(sheet::block(s, i)).0;
+        sum += field_blocks::bits_in(sheet::block(s, i)).0;
         i += 1;
     }
     Bits(sum)
 }
 
 // Where field i starts.
-pub fn start(s: &[u8], i: usize) -> FieldStart
-    ensures { λ r. ⌜ startIn r ≡ startOf (now (s .entry)) i ⌝ }
+pub fn unchecked_start(s: &[u8], i: usize) -> FieldStart
+    ensures { λ r. ⌜ fieldStartSays r ≡ startOf (now (s .entry)) i ⌝ }
 {
     if (i < 64) & (i < sheet::block_counts(s).fields) {
         return FieldStart::At(BitPos::new(bits_before(s, i)));
@@ -156,10 +157,10 @@ pub fn start(s: &[u8], i: usize) -> FieldStart
 // ---- header 1 to 5, a test each
 
 // Header 3: narrow enough for a number, but spread over more than 8 bytes.
-fn over_eight(start: BitPos, bit: Bits) -> bool
-    ensures { λ r. ⌜ r ≡ overEight (globalOf start) (bit .0) ⌝ }
+fn over_eight(start: BitPos, width: Bits) -> bool
+    ensures { λ r. ⌜ r ≡ overEight (globalOf start) (width .0) ⌝ }
 {
-    (bit.0 <= 64) & (8 < start.touched(bit).0)
+    (width.0 <= 64) & (8 < start.touched(width).0)
 }
 
 // Header 4: a byte slice off a byte boundary.
@@ -178,25 +179,32 @@ fn too_long(bits: Bits) -> bool
 
 // Field i refused for this reason where the test holds.
 fn refuse(test: bool, fault: HeaderFault, i: usize) -> Verdict
-    ensures { λ r. ⌜ paper r ≡ refusedIf test Group.Header (headerNumber fault) i ⌝ }
+    ensures { λ r. ⌜ verdictSays r ≡ refusedIf test Group.Header (headerNumber fault) i ⌝ }
 {
     Verdict::refuse(test, Refusal::Header(fault, i))
 }
 
-// Header 1 to 5 of field i: by whether its name was used before, its name, where it starts and what it is.
-fn field_fault(used: bool, called: &[u8], start: Bits, f: Field, i: usize) -> Verdict
-    requires { ⌜ start .0 + f .bit .0 < 2 ^ 64 ⌝ }
-    ensures { λ r. ⌜ paper r ≡ faultsOf used (now (called .entry)) (start .0) f i ⌝ }
+// Header 1 to 5 of field i: by whether its name was used before, where it starts and what it is.
+fn field_fault(s: &[u8], i: usize, used: bool, start: Bits, f: Field) -> Verdict
+    requires { ⌜ used ≡ usedBefore (now s) i ⌝ }
+    requires { ⌜ start .0 ≡ startAt (now s) i ⌝ }
+    requires { ⌜ f ≡ fieldAt (now s) i ⌝ }
+    requires { ⌜ start .0 + f .width .0 < 2 ^ 64 ⌝ }
+    ensures { λ r. ⌜ verdictSays r ≡ headerFault (now (s .entry)) i ⌝ }
 {
     let at = BitPos::new(start);
-    let bit = f.bit;
+    let width = f.width;
     let repr = f.repr;
     let again = refuse(used, HeaderFault::NameUsedBefore, i);
-    let reserved = refuse(is_reserved(called), HeaderFault::NameReserved, i);
-    let spread = refuse(over_eight(at, bit), HeaderFault::TouchesOverEightBytes, i);
+    let reserved = refuse(
+        is_reserved(name(sheet::block(s, i))),
+        HeaderFault::NameReserved,
+        i,
+    );
+    let spread = refuse(over_eight(at, width), HeaderFault::TouchesOverEightBytes, i);
     let off = refuse(off_boundary(at, repr), HeaderFault::SliceOffByteBoundary, i);
     let long = refuse(
-        too_long(Bits(start.0 + bit.0)),
+        too_long(Bits(start.0 + width.0)),
         HeaderFault::HeaderTooLong,
         i,
     );
@@ -206,7 +214,7 @@ fn field_fault(used: bool, called: &[u8], start: Bits, f: Field, i: usize) -> Ve
 impl Header {
     // Step 3: the header of a sheet's fields, or the refusal.
     pub fn new(s: &[u8]) -> NewHeader
-        ensures { λ r. ⌜ headerAnswer r ≡ newHeader (now (s .entry)) ⌝ }
+        ensures { λ r. ⌜ newHeaderSays r ≡ newHeader (now (s .entry)) ⌝ }
     {
         let n = sheet::block_counts(s).fields;
         let mut keys = [false; 256];
@@ -216,18 +224,18 @@ impl Header {
             let called = name(sheet::block(s, i));
             let k = key(called) as usize;
             let f = field_at(s, i);
-            let v = field_fault(used_before(s, called, i, keys[k]), called, bits, f, i);
+            let v = field_fault(s, i, used_before(s, called, i, keys[k]), bits, f);
             if let Verdict::Refused(reason) = v {
                 return NewHeader::Refused(reason);
             }
             keys[k] = true;
-            bits = Bits(bits.0 + f.bit.0);
+            bits = Bits(bits.0 + f.width.0);
             i += 1;
         }
         if !bits.is_whole_bytes() {
             return NewHeader::Refused(Refusal::Header(
                 HeaderFault::HeaderNotWholeBytes,
-                s.len() / 512,
+                sheet::block_count(s),
             ));
         }
         NewHeader::Is(Header {

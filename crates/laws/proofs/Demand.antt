@@ -10,51 +10,51 @@ use lib.ListN.{length}
 use borrow.Author.Tests.{le-ltb}
 use Rattle.answer.specs.declared.Group.{Group}
 use Rattle.answer.specs.declared.Verdict.{Verdict}
-use Rattle.answer.specs.Paper.{gives, accepted, paper, refuse}
-use Rattle.answer.proofs.OneToOne.{paper-one}
+use Rattle.answer.specs.Paper.{gives, accepted, verdictSays, refuse}
+use Rattle.answer.proofs.OneToOne.{verdict-one}
 use Rattle.bits.specs.Bits.{bit}
 use Rattle.sheet.specs.Blocks.{fieldCount}
 use Rattle.layout.specs.Layout.{HeaderField, field, start, Filled}
 use Rattle.layout.specs.Access as access
-use Rattle.layout.specs.Access.{Value, number, bytes, ofBytes, says, Write, write, apply}
+use Rattle.layout.specs.Access.{Value, number, bytes, ofBytes, spells, Write, write, apply}
 use Rattle.layout.specs.Demand as layout
-use Rattle.layout.proofs.Places.{start-all}
+use Rattle.layout.proofs.Starts.{start-all}
 use Rattle.layout.proofs.Filled.{filled-one}
-use Rattle.header.specs.Places.{layoutOf, startAt}
+use Rattle.header.specs.Starts.{headerLayout, startAt}
 use Rattle.header.specs.Step.{headerBytes}
-use Rattle.header.proofs.Places.{layout-length, layout-field}
-use Rattle.header.proofs.Laid.{demanded}
+use Rattle.header.proofs.Starts.{layout-length, layout-field}
+use Rattle.header.proofs.HeaderIs.{demanded}
 use Rattle.definition.specs.Definition.{Accepted}
-use Rattle.definition.proofs.Laws.{passed-all}
+use Rattle.definition.proofs.Steps.{five-steps, layout-whole}
 use Rattle.template.specs.Template.{templateCheck, TemplateBuilt}
 use Rattle.access.specs.Access.{sheetRead, sheetWriteCheck, sheetApply}
-use Rattle.access.proofs.Places.{bits-are, start-is, width-is}
-use Rattle.access.proofs.Laws.{read-is, write-check-is, apply-is}
-use Rattle.laws.specs.Fields.{widthAt, defaultAt, fixedAt, OfField, holds, Allowed, Readable}
-use Rattle.laws.specs.Demand.{Demand, Passes, Started}
+use Rattle.access.proofs.Locators.{start-is, width-is}
+use Rattle.access.proofs.BySheet.{read-is, write-check-is, apply-is}
+use Rattle.laws.specs.Fields.{widthAt, defaultAt, fixedAt, OfField, holds, SheetAllowed, SheetReachable}
+use Rattle.laws.specs.Demand.{SheetDemand, SheetWriteAccepted, Started}
 use Rattle.laws.proofs.Fields.{holds-is, of-field-is, readable-is, allowed-is}
 
 module _ (s : List ℕ) (ok : Accepted s) where
-  owed : layout.Demand (layoutOf s)
-  owed = demanded s (passed-all s ok .fields) (passed-all s ok .header)
+  owed : layout.Demand (headerLayout s)
+  owed = demanded s (five-steps s ok .fields) (five-steps s ok .header)
 
   -- a write that is accepted is accepted by the layout, and its field is there
-  passes-is : (b : List ℕ) (w : Write) → Passes s b w → access.Accepted (layoutOf s) b w
+  passes-is : (b : List ℕ) (w : Write) → SheetWriteAccepted s b w → access.WriteAccepted (headerLayout s) b w
   passes-is b w e = sym (write-check-is s ok (length b) w) ∙ e
 
-  there : (b : List ℕ) (w : Write) → Passes s b w → w .index < fieldCount s
+  there : (b : List ℕ) (w : Write) → SheetWriteAccepted s b w → w .index < fieldCount s
   there b w e = allowed-is s ok (length b) w .0 (owed .accepted-writes b w .0 (passes-is b w e)) .there
 
   -- ---- the template
 
   -- where the last field ends
-  end-is : start (layoutOf s) (fieldCount s) ≡ 8 * headerBytes s
-  end-is = start-all (layoutOf s) (fieldCount s) (omega (arith, layout-length s)) ∙ bits-are s ok
+  end-is : start (headerLayout s) (fieldCount s) ≡ 8 * headerBytes s
+  end-is = start-all (headerLayout s) (fieldCount s) (omega (arith, layout-length s)) ∙ layout-whole s ok
 
-  default-is : (i : ℕ) → i < fieldCount s → (field (layoutOf s) i) .default ≡ defaultAt s i
+  default-is : (i : ℕ) → i < fieldCount s → (field (headerLayout s) i) .default ≡ defaultAt s i
   default-is i h = ap (λ (f : HeaderField). f .default) (layout-field s i h)
 
-  filled-is : {b c : List ℕ} → Started s b c → Filled (layoutOf s) (fieldCount s) b c
+  filled-is : {b c : List ℕ} → Started s b c → Filled (headerLayout s) (fieldCount s) b c
   filled-is {b} {c} t = record {
     bytes = t .bytes;
     same-length = t .same-length;
@@ -62,7 +62,7 @@ module _ (s : List ℕ) (ok : Accepted s) where
     rest = λ k l. t .rest k (rw end-is at l);
   }
 
-  started-is : {b c : List ℕ} → Filled (layoutOf s) (fieldCount s) b c → Started s b c
+  started-is : {b c : List ℕ} → Filled (headerLayout s) (fieldCount s) b c → Started s b c
   started-is {b} {c} f = record {
     bytes = f .bytes;
     same-length = f .same-length;
@@ -75,11 +75,11 @@ module _ (s : List ℕ) (ok : Accepted s) where
   room n h = rw (ok, le-ltb n (headerBytes s) h)
 
   module _ {b c : List ℕ} {r : Verdict} (h : headerBytes s ≤ length b) (t : TemplateBuilt s b c r) where
-    built : paper r ≡ accepted
+    built : verdictSays r ≡ accepted
     built = t .answer ∙ room (length b) h
 
     template-reads : (r ≡ Verdict.Accepted) × Started s b c
-    template-reads = (paper-one r Verdict.Accepted built, started-is (t .filled built))
+    template-reads = (verdict-one r Verdict.Accepted built, started-is (t .filled built))
 
     template-only : (d : List ℕ) → Started s b d → d ≡ c
     template-only d st = filled-one (filled-is st) (t .filled built)
@@ -88,32 +88,32 @@ module _ (s : List ℕ) (ok : Accepted s) where
 
   one-field : (k : ℕ) → k < 8 * headerBytes s → (i : ℕ) × OfField s i k × ((j : ℕ) → OfField s j k → j ≡ i)
   one-field k h =
-      let found = owed .one-field k (rw (bits-are s ok) h) in
+      let found = owed .one-field k (rw (layout-whole s ok) h) in
       (found .0, of-field-is s ok (found .0) k .0 (found .1), λ j p. found .2 j (of-field-is s ok j k .1 p))
 
-  number-back : (b : List ℕ) (i v : ℕ) → Passes s b (write i (number v))
+  number-back : (b : List ℕ) (i v : ℕ) → SheetWriteAccepted s b (write i (number v))
       → (j : ℕ) → j < widthAt s i → bit (sheetApply s b (write i (number v))) (startAt s i + j) ≡ v / 2 ^ (widthAt s i - suc j) % 2
   number-back b i v e j l =
       let w = write i (number v) in
       let h = there b w e in
       rw (apply-is s ok b w, ← (start-is s i h), ← (width-is s i h)) (owed .number-back b i v (passes-is b w e) j (rw (width-is s i h) l))
 
-  bytes-back : (b : List ℕ) (i : ℕ) (l : List ℕ) → Passes s b (write i (bytes l)) → (j : ℕ) → j < 8 * length l → bit (sheetApply s b (write i (bytes l))) (startAt s i + j) ≡ bit l j
+  bytes-back : (b : List ℕ) (i : ℕ) (l : List ℕ) → SheetWriteAccepted s b (write i (bytes l)) → (j : ℕ) → j < 8 * length l → bit (sheetApply s b (write i (bytes l))) (startAt s i + j) ≡ bit l j
   bytes-back b i l e j h =
       let w = write i (bytes l) in
       rw (apply-is s ok b w, ← (start-is s i (there b w e))) (owed .bytes-back b i l (passes-is b w e) j h)
 
-  accepted-writes : (b : List ℕ) (w : Write) → Passes s b w ↔ Allowed s (length b) w
+  accepted-writes : (b : List ℕ) (w : Write) → SheetWriteAccepted s b w ↔ SheetAllowed s (length b) w
   accepted-writes b w = (
     λ e. allowed-is s ok (length b) w .0 (owed .accepted-writes b w .0 (passes-is b w e)),
     λ a. write-check-is s ok (length b) w ∙ owed .accepted-writes b w .1 (allowed-is s ok (length b) w .1 a),
   )
 
   -- a read of the sheet is one of its layout
-  layout-read : (b : List ℕ) (asBytes : Bool) (i : ℕ) (v : Value) → sheetRead s b asBytes i ≡ gives v → access.read (layoutOf s) b asBytes i ≡ gives v
+  layout-read : (b : List ℕ) (asBytes : Bool) (i : ℕ) (v : Value) → sheetRead s b asBytes i ≡ gives v → access.read (headerLayout s) b asBytes i ≡ gives v
   layout-read b asBytes i v e = sym (read-is s ok b asBytes i) ∙ e
 
-  accepted-reads : (b : List ℕ) (asBytes : Bool) (i : ℕ) → ((v : Value) × (sheetRead s b asBytes i ≡ gives v)) ↔ Readable s (length b) asBytes i
+  accepted-reads : (b : List ℕ) (asBytes : Bool) (i : ℕ) → ((v : Value) × (sheetRead s b asBytes i ≡ gives v)) ↔ SheetReachable s (length b) asBytes i
   accepted-reads b asBytes i = (
     λ e. readable-is s ok (length b) asBytes i .0 (owed .accepted-reads b asBytes i .0 (e .0, layout-read b asBytes i (e .0) (e .1))),
     λ r. let given = owed .accepted-reads b asBytes i .1 (readable-is s ok (length b) asBytes i .1 r) in (given .0, read-is s ok b asBytes i ∙ given .1),
@@ -123,7 +123,7 @@ module _ (s : List ℕ) (ok : Accepted s) where
     read-there : i < fieldCount s
     read-there = accepted-reads b asBytes i .0 (v, e) .there
 
-    read-holds : says v ≡ holds s b i
+    read-holds : spells v ≡ holds s b i
     read-holds = owed .read-says b asBytes i v (layout-read b asBytes i v e) ∙ holds-is s ok i read-there b
 
     write-read-answer : sheetWriteCheck s (length b) (write i v) ≡ refuse (fixedAt s i && not (eqb (holds s b i) (defaultAt s i))) Group.Access 5 i
@@ -132,13 +132,13 @@ module _ (s : List ℕ) (ok : Accepted s) where
         ∙ owed .write-read-answer b asBytes i v (layout-read b asBytes i v e)
         ∙ rw (holds-is s ok i read-there b, default-is i read-there, ap (λ (f : HeaderField). f .fixed) (layout-field s i read-there))
 
-  read-after : (b : List ℕ) (w : Write) → sheetRead s (sheetApply s b w) (ofBytes (w .value)) (w .index) ≡ access.read (layoutOf s) (apply (layoutOf s) b w) (ofBytes (w .value)) (w .index)
-  read-after b w = rw (apply-is s ok b w) (read-is s ok (apply (layoutOf s) b w) (ofBytes (w .value)) (w .index))
+  read-after : (b : List ℕ) (w : Write) → sheetRead s (sheetApply s b w) (ofBytes (w .value)) (w .index) ≡ access.read (headerLayout s) (apply (headerLayout s) b w) (ofBytes (w .value)) (w .index)
+  read-after b w = rw (apply-is s ok b w) (read-is s ok (apply (headerLayout s) b w) (ofBytes (w .value)) (w .index))
 
-  pub demand : Demand s
+  pub demand : SheetDemand s
   demand = record {
     one-field = one-field;
-    in-header = λ i k p. rw (bits-are s ok) at (owed .in-header i k (of-field-is s ok i k .1 p));
+    in-header = λ i k p. rw (layout-whole s ok) at (owed .in-header i k (of-field-is s ok i k .1 p));
     template-reads = λ b c r h t. template-reads h t;
     template-only = λ b c d r h t. template-only h t d;
     accepted-writes = λ b w. accepted-writes b w;
@@ -152,8 +152,8 @@ module _ (s : List ℕ) (ok : Accepted s) where
     read-holds = read-holds;
     write-read = λ b asBytes i v h e. rw (apply-is s ok b (write i v)) (owed .write-read b asBytes i v h (layout-read b asBytes i v e));
     write-read-answer = write-read-answer;
-    second = λ b w w' same p q. rw (apply-is s ok b w, apply-is s ok b w', apply-is s ok (apply (layoutOf s) b w) w') (owed .second b w w' same (passes-is b w p) (passes-is b w' q));
-    either-order = λ b w w' other. rw (apply-is s ok b w, apply-is s ok b w', apply-is s ok (apply (layoutOf s) b w) w', apply-is s ok (apply (layoutOf s) b w') w) (owed .either-order b w w' other);
+    second = λ b w w' same p q. rw (apply-is s ok b w, apply-is s ok b w', apply-is s ok (apply (headerLayout s) b w) w') (owed .second b w w' same (passes-is b w p) (passes-is b w' q));
+    either-order = λ b w w' other. rw (apply-is s ok b w, apply-is s ok b w', apply-is s ok (apply (headerLayout s) b w) w', apply-is s ok (apply (headerLayout s) b w') w) (owed .either-order b w w' other);
     same-length = λ b w. rw (apply-is s ok b w) (owed .same-length b w);
-    after-header = λ b w h i l. rw (apply-is s ok b w) (owed .after-header b w h i (omega (arith, bits-are s ok)));
+    after-header = λ b w h i l. rw (apply-is s ok b w) (owed .after-header b w h i (omega (arith, layout-whole s ok)));
   }

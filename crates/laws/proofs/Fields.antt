@@ -9,17 +9,18 @@ use Rattle.sheet.specs.Blocks.{fieldCount}
 use Rattle.layout.specs.Layout.{HeaderField, In, content}
 use Rattle.layout.specs.Access as access
 use Rattle.layout.specs.Access.{ofBytes, Write}
-use Rattle.header.specs.Places.{layoutOf}
-use Rattle.header.proofs.Places.{layout-length, layout-field}
+use Rattle.header.specs.Starts.{headerLayout}
+use Rattle.header.proofs.Starts.{layout-length, layout-field}
 use Rattle.definition.specs.Definition.{Accepted}
-use Rattle.access.proofs.Places.{bits-are, start-is, width-is}
-use Rattle.laws.specs.Fields.{OfField, holds, Allowed, Readable}
+use Rattle.definition.proofs.Steps.{layout-whole}
+use Rattle.access.proofs.Locators.{start-is, width-is}
+use Rattle.laws.specs.Fields.{OfField, holds, SheetAllowed, SheetReachable}
 
 module _ (s : List ℕ) (ok : Accepted s) where
-  pub holds-is : (i : ℕ) → i < fieldCount s → (b : List ℕ) → content (layoutOf s) b i ≡ holds s b i
+  pub holds-is : (i : ℕ) → i < fieldCount s → (b : List ℕ) → content (headerLayout s) b i ≡ holds s b i
   holds-is i h b = rw (start-is s i h, width-is s i h)
 
-  pub of-field-is : (i k : ℕ) → In (layoutOf s) i k ↔ OfField s i k
+  pub of-field-is : (i k : ℕ) → In (headerLayout s) i k ↔ OfField s i k
   of-field-is i k = (
     λ p. let h : i < fieldCount s = rw (layout-length s) at (p .there) in
         record { there = h; from = rw (start-is s i h) at (p .from); to = rw (start-is s i h, width-is s i h) at (p .to) },
@@ -30,18 +31,18 @@ module _ (s : List ℕ) (ok : Accepted s) where
     },
   )
 
-  pub readable-is : (n : ℕ) (asBytes : Bool) (i : ℕ) → access.Reachable (layoutOf s) n asBytes i ↔ Readable s n asBytes i
+  pub readable-is : (n : ℕ) (asBytes : Bool) (i : ℕ) → access.Reachable (headerLayout s) n asBytes i ↔ SheetReachable s n asBytes i
   readable-is n asBytes i = (
     λ r. let h : i < fieldCount s = rw (layout-length s) at (r .there) in
-        record { there = h; long = omega (arith, r .long, bits-are s ok); kind = r .kind ∙ ap (λ (x : HeaderField). x .isBytes) (layout-field s i h) },
+        record { there = h; long = omega (arith, r .long, layout-whole s ok); kind = r .kind ∙ ap (λ (x : HeaderField). x .isBytes) (layout-field s i h) },
     λ r. record {
       there = rw (layout-length s) (r .there);
-      long = omega (arith, r .long, bits-are s ok);
+      long = omega (arith, r .long, layout-whole s ok);
       kind = r .kind ∙ sym (ap (λ (x : HeaderField). x .isBytes) (layout-field s i (r .there)));
     },
   )
 
-  pub allowed-is : (n : ℕ) (w : Write) → access.Allowed (layoutOf s) n w ↔ Allowed s n w
+  pub allowed-is : (n : ℕ) (w : Write) → access.Allowed (headerLayout s) n w ↔ SheetAllowed s n w
   allowed-is n w = (
     λ a. let r = readable-is n (ofBytes (w .value)) (w .index) .0 (a .reached) in
         let f = layout-field s (w .index) (r .there) in

@@ -7,9 +7,9 @@ use Rattle.bits.specs.Bits.{value}
 use Rattle.sheet.specs.Blocks.{blockAt, fieldCount}
 use Rattle.types.specs.Types.{isSlice}
 use Rattle.field.specs.Sound.{widthOf}
-use Rattle.fields.specs.Step.{fieldAt}
-use Rattle.layout.specs.Access.{ofBytes, says, Fits, Write}
-use Rattle.header.specs.Places.{defaultNumber, startAt}
+use Rattle.field_blocks.specs.Step.{fieldAt}
+use Rattle.layout.specs.Access.{ofBytes, spells, OfSize, Write}
+use Rattle.header.specs.Starts.{defaultNumber, startAt}
 use Rattle.header.specs.Step.{headerBytes}
 
 -- field i: how many bits it has from `startAt s i` on, whether it is a byte slice, the number that its default's bits spell, and whether it is fixed
@@ -37,15 +37,15 @@ holds s b i = value b (startAt s i) (widthAt s i)
 
 -- a write that the rules allow in a buffer of n bytes: to a field that there is; the buffer as long as the header; a number to a number, bytes to a byte
 -- slice; of the field's size; and to a fixed field no other value than its default
-pub record Allowed (s : List ℕ) (n : ℕ) (w : Write) : Type 0 where
+pub record SheetAllowed (s : List ℕ) (n : ℕ) (w : Write) : Type 0 where
   pub there : w .index < fieldCount s
   pub long : headerBytes s ≤ n
   pub kind : ofBytes (w .value) ≡ isBytesAt s (w .index)
-  pub size : Fits (w .value) (widthAt s (w .index))
-  pub free : fixedAt s (w .index) ≡ true → says (w .value) ≡ defaultAt s (w .index)
+  pub size : OfSize (w .value) (widthAt s (w .index))
+  pub free : fixedAt s (w .index) ≡ true → spells (w .value) ≡ defaultAt s (w .index)
 
 -- a read that they allow
-pub record Readable (s : List ℕ) (n : ℕ) (asBytes : Bool) (i : ℕ) : Type 0 where
+pub record SheetReachable (s : List ℕ) (n : ℕ) (asBytes : Bool) (i : ℕ) : Type 0 where
   pub there : i < fieldCount s
   pub long : headerBytes s ≤ n
   pub kind : asBytes ≡ isBytesAt s i

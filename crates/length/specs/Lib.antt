@@ -1,3 +1,3 @@
 pub mod Named
 pub mod Step
-pub mod Lengths
+pub mod LengthsAre

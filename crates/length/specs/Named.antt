@@ -3,7 +3,7 @@ use mathlib.Core.List.{List}
 use mathlib.Core.Option.{Option, none, some}
 use Prim.Native.Nat.{ℕ}
 use Rattle.field.specs.declared.Field.{Field}
-use Rattle.fields.specs.Step.{fieldAt}
+use Rattle.field_blocks.specs.Step.{fieldAt}
 use Rattle.header.specs.Names.{nameAt, fieldNamed}
 use Rattle.length.specs.declared.Named.{Named}
 
@@ -15,6 +15,6 @@ abbrev pub fieldOfBlock : List ℕ → ℕ → Option Field
 fieldOfBlock s i = fieldHere s (fieldNamed s (nameAt s i))
 
 -- what the program's answer says
-abbrev pub fieldIn : Named → Option Field
-fieldIn (Named.Is f) = some f
-fieldIn Named.None = none
+abbrev pub namedSays : Named → Option Field
+namedSays (Named.Is f) = some f
+namedSays Named.None = none

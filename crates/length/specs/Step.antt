@@ -6,9 +6,9 @@ use Prim.Native.Nat.{ℕ}
 use lib.Dec.{ltb, eqb}
 use Rattle.answer.specs.declared.Group.{Group}
 use Rattle.answer.specs.Paper.{Check, accepted, refused, refuse, _andThen_, first}
+use Rattle.answer.specs.Walk.{isSome, orZero}
 use Rattle.number.specs.Numbers.{maxBytes, maxValue}
 use Rattle.sheet.specs.Blocks.{blockCount, blockAt}
-use Rattle.sheet.specs.Sheet.{isSome}
 use Rattle.types.specs.declared.BuiltinTypes.{BuiltinTypes}
 use Rattle.types.specs.declared.Arg.{Arg}
 use Rattle.types.specs.Types.{sameType, isSlice}
@@ -18,7 +18,7 @@ use Rattle.field.specs.Sound.{widthOf}
 use Rattle.expr.specs.declared.UsableAlgExpr.{UsableAlgExpr}
 use Rattle.expr.specs.Forms.{_then_, forward}
 use Rattle.slots.specs.declared.LengthField.{LengthField}
-use Rattle.slots.specs.Slots.{exprIn, placeOf, blockOfSlot, lengthField, isTree, noForm}
+use Rattle.slots.specs.Slots.{exprIn, blockOfSlot, lengthField, isTree, noForm}
 use Rattle.length.specs.declared.Used.{Used}
 use Rattle.length.specs.Named.{fieldOfBlock}
 
@@ -27,20 +27,20 @@ use Rattle.length.specs.Named.{fieldOfBlock}
 abbrev pub largest : UsableAlgExpr → Field → Option ℕ
 largest e f = maxValue (widthOf f) then forward e
 
-abbrev pub defaultOf : DefaultVal → Option ℕ
-defaultOf (DefaultVal.Num n) = some n
-defaultOf (DefaultVal.Bool b) = none
-defaultOf (DefaultVal.Bytes s) = none
+abbrev pub numberDefault : DefaultVal → Option ℕ
+numberDefault (DefaultVal.Num n) = some n
+numberDefault (DefaultVal.Bool b) = none
+numberDefault (DefaultVal.Bytes s) = none
 
 abbrev pub ofDefault : UsableAlgExpr → Field → Option ℕ
-ofDefault e f = defaultOf (f .default) then forward e
+ofDefault e f = numberDefault (f .default) then forward e
 
 -- ---- the tests of a field
 
 -- length 6: an arg that is not a type equal to the repr, or a byte slice
-abbrev pub badArg : BuiltinTypes → Arg → Bool
-badArg repr (Arg.BuiltinTypes t) = not (sameType t repr) || isSlice repr
-badArg repr Arg.Code = true
+abbrev pub argNotTheRepr : BuiltinTypes → Arg → Bool
+argNotTheRepr repr (Arg.BuiltinTypes t) = not (sameType t repr) || isSlice repr
+argNotTheRepr repr Arg.Code = true
 
 -- a length that is over or under a number of bytes; one that cannot be worked out is neither
 abbrev pub isOver : Option ℕ → ℕ → Bool
@@ -52,11 +52,11 @@ isUnder (some n) least = ltb n least
 isUnder none least = false
 
 -- length 4, over 64 bits; 5, gen true; 6; 7, a fixed default, for slots 1 and 2
-unfoldable pub fieldFault : ℕ → Field → ℕ → Check
-fieldFault slot f at =
+unfoldable pub lengthFieldFault : ℕ → Field → ℕ → Check
+lengthFieldFault slot f at =
     refuse (ltb 64 (widthOf f)) Group.Length 4 at
     andThen refuse (f .generate) Group.Length 5 at
-    andThen refuse (badArg (f .repr) (f .arg)) Group.Length 6 at
+    andThen refuse (argNotTheRepr (f .repr) (f .arg)) Group.Length 6 at
     andThen refuse (f .fixed && not (eqb slot 0)) Group.Length 7 at
 
 -- length 8, the largest value's length passes 2^64 - 1; 9, it is over 4,194,303. For slot 0 then 13, the default's length cannot be worked out; 10, it
@@ -73,7 +73,7 @@ lengthFault slot most usual header at =
 -- of an expression in block `at`: length 3, no such field; then the tests of the field
 abbrev pub exprFault : ℕ → ℕ → ℕ → UsableAlgExpr → Option Field → Check
 exprFault header slot at e none = refused Group.Length 3 at
-exprFault header slot at e (some f) = fieldFault slot f at andThen lengthFault slot (largest e f) (ofDefault e f) header at
+exprFault header slot at e (some f) = lengthFieldFault slot f at andThen lengthFault slot (largest e f) (ofDefault e f) header at
 
 -- a slot that holds no expression leaves the check at once
 abbrev pub heldFault : List ℕ → ℕ → ℕ → ℕ → LengthField → Check
@@ -82,7 +82,7 @@ heldFault s header slot at LengthField.Undefined = accepted
 heldFault s header slot at (LengthField.Expr e) = exprFault header slot at e (fieldOfBlock s at)
 
 abbrev pub slotCheck : List ℕ → ℕ → ℕ → Check
-slotCheck s header slot = heldFault s header slot (placeOf (blockOfSlot s slot)) (lengthField s slot)
+slotCheck s header slot = heldFault s header slot (orZero (blockOfSlot s slot)) (lengthField s slot)
 
 -- ---- all of them
 
@@ -115,7 +115,7 @@ usedBy s at LengthField.Undefined = none
 usedBy s at (LengthField.Expr e) = withField e (fieldOfBlock s at)
 
 abbrev pub used : List ℕ → ℕ → Option (UsableAlgExpr × Field)
-used s slot = usedBy s (placeOf (blockOfSlot s slot)) (lengthField s slot)
+used s slot = usedBy s (orZero (blockOfSlot s slot)) (lengthField s slot)
 
 abbrev pub worked : (UsableAlgExpr → Field → Option ℕ) → Option (UsableAlgExpr × Field) → Option ℕ
 worked length (some u) = length (u .0) (u .1)
@@ -128,6 +128,6 @@ abbrev pub defaultLength : List ℕ → ℕ → Option ℕ
 defaultLength s slot = worked ofDefault (used s slot)
 
 -- what the program's answer says
-abbrev pub usedOf : Used → Option (UsableAlgExpr × Field)
-usedOf (Used.By e f) = some (e, f)
-usedOf Used.None = none
+abbrev pub usedSays : Used → Option (UsableAlgExpr × Field)
+usedSays (Used.By e f) = some (e, f)
+usedSays Used.None = none

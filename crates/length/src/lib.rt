@@ -18,14 +18,14 @@ use types::BuiltinTypes;
 ghost use mathlib.Core.Path.{_≡_};
 ghost use mathlib.Core.Bool.{not};
 ghost use Rattle.answer.specs.declared.Group.{Group};
-ghost use Rattle.answer.specs.Paper.{lengthNumber, paper, refuse as refusedIf, first};
+ghost use Rattle.answer.specs.Paper.{lengthNumber, verdictSays, refuse as refusedIf, first};
+ghost use Rattle.answer.specs.Walk.{isSome};
 ghost use Rattle.number.specs.Numbers.{maxBytes};
-ghost use Rattle.sheet.specs.Sheet.{isSome};
 ghost use Rattle.sheet.specs.Blocks.{blockCount};
-ghost use Rattle.expr.specs.Forms.{lengthOf};
+ghost use Rattle.expr.specs.Forms.{lengthSays};
 ghost use Rattle.slots.specs.Slots.{blockOfSlot};
-ghost use Rattle.length.specs.Named.{fieldOfBlock, fieldIn};
-ghost use Rattle.length.specs.Step.{largest as largestOf, ofDefault, badArg, isOver, isUnder, fieldFault, lengthFault, exprFault, slotCheck, treeFault, lengthCheck, used, usedOf, largestLength, defaultLength};
+ghost use Rattle.length.specs.Named.{fieldOfBlock, namedSays};
+ghost use Rattle.length.specs.Step.{largest as largestOf, ofDefault, argNotTheRepr, isOver, isUnder, lengthFieldFault, lengthFault, exprFault, slotCheck, treeFault, lengthCheck, used, usedSays, largestLength, defaultLength};
 
 // The field that a name means, if there is one.
 enum Named {
@@ -41,10 +41,10 @@ enum Used {
 
 // The field that the name of block i means.
 fn field_of_block(s: &[u8], i: usize) -> Named
-    ensures { λ r. ⌜ fieldIn r ≡ fieldOfBlock (now (s .entry)) i ⌝ }
+    ensures { λ r. ⌜ namedSays r ≡ fieldOfBlock (now (s .entry)) i ⌝ }
 {
-    match header::field_named(s, name(sheet::block(s, i))) {
-        FieldIndex::At(k) => Named::Is(fields::resolved(sheet::block(s, k))),
+    match header::unchecked_field_named(s, name(sheet::block(s, i))) {
+        FieldIndex::At(k) => Named::Is(field_blocks::resolved(sheet::block(s, k))),
         FieldIndex::None => Named::None,
     }
 }
@@ -52,17 +52,17 @@ fn field_of_block(s: &[u8], i: usize) -> Named
 // ---- the lengths of a field
 
 fn largest(e: UsableAlgExpr, f: Field) -> Length
-    ensures { λ r. ⌜ lengthOf r ≡ largestOf e f ⌝ }
+    ensures { λ r. ⌜ lengthSays r ≡ largestOf e f ⌝ }
 {
-    let bit = f.bit;
-    match number::max_value(bit) {
+    let width = f.width;
+    match number::max_value(width) {
         MaxValue::Is(x) => e.exec(x),
         MaxValue::None => Length::None,
     }
 }
 
 fn of_default(e: UsableAlgExpr, f: Field) -> Length
-    ensures { λ r. ⌜ lengthOf r ≡ ofDefault e f ⌝ }
+    ensures { λ r. ⌜ lengthSays r ≡ ofDefault e f ⌝ }
 {
     let default = f.default;
     match default {
@@ -76,7 +76,7 @@ fn of_default(e: UsableAlgExpr, f: Field) -> Length
 
 // Length 6: an arg that is not the repr, or a byte slice.
 fn bad_arg(repr: BuiltinTypes, arg: Arg) -> bool
-    ensures { λ r. ⌜ r ≡ badArg repr arg ⌝ }
+    ensures { λ r. ⌜ r ≡ argNotTheRepr repr arg ⌝ }
 {
     match arg {
         Arg::BuiltinTypes(t) => !t.same_type(repr) | repr.is_slice(),
@@ -85,7 +85,7 @@ fn bad_arg(repr: BuiltinTypes, arg: Arg) -> bool
 }
 
 fn is_none(length: Length) -> bool
-    ensures { λ r. ⌜ r ≡ not (isSome (lengthOf length)) ⌝ }
+    ensures { λ r. ⌜ r ≡ not (isSome (lengthSays length)) ⌝ }
 {
     match length {
         Length::Is(_) => false,
@@ -94,7 +94,7 @@ fn is_none(length: Length) -> bool
 }
 
 fn is_over_max(length: Length) -> bool
-    ensures { λ r. ⌜ r ≡ isOver (lengthOf length) maxBytes ⌝ }
+    ensures { λ r. ⌜ r ≡ isOver (lengthSays length) maxBytes ⌝ }
 {
     match length {
         Length::Is(n) => n.over_max(),
@@ -103,7 +103,7 @@ fn is_over_max(length: Length) -> bool
 }
 
 fn is_under(length: Length, least: Bytes) -> bool
-    ensures { λ r. ⌜ r ≡ isUnder (lengthOf length) (least .0) ⌝ }
+    ensures { λ r. ⌜ r ≡ isUnder (lengthSays length) (least .0) ⌝ }
 {
     match length {
         Length::Is(n) => n.0 < least.0,
@@ -113,19 +113,19 @@ fn is_under(length: Length, least: Bytes) -> bool
 
 // Refused for this reason where the test holds.
 fn refuse(test: bool, fault: LengthFault, place: usize) -> Verdict
-    ensures { λ r. ⌜ paper r ≡ refusedIf test Group.Length (lengthNumber fault) place ⌝ }
+    ensures { λ r. ⌜ verdictSays r ≡ refusedIf test Group.Length (lengthNumber fault) place ⌝ }
 {
     Verdict::refuse(test, Refusal::Length(fault, place))
 }
 
 // Length 4 to 7: a field that cannot be used.
 fn field_fault(slot: u8, f: Field, at: usize) -> Verdict
-    ensures { λ r. ⌜ paper r ≡ fieldFault slot f at ⌝ }
+    ensures { λ r. ⌜ verdictSays r ≡ lengthFieldFault slot f at ⌝ }
 {
-    let bit = f.bit;
+    let width = f.width;
     let repr = f.repr;
     let arg = f.arg;
-    let wide = refuse(64 < bit.0, LengthFault::FieldOver64Bits, at);
+    let wide = refuse(64 < width.0, LengthFault::FieldOver64Bits, at);
     let generated = refuse(f.generate, LengthFault::FieldGenerated, at);
     let other = refuse(bad_arg(repr, arg), LengthFault::ArgNotTheRepr, at);
     let fixed = refuse(f.fixed & (slot != 0), LengthFault::FieldFixed, at);
@@ -134,7 +134,7 @@ fn field_fault(slot: u8, f: Field, at: usize) -> Verdict
 
 // Length 8, 9, 13 and 10: the largest length, and the usual one, the default's.
 fn length_fault(slot: u8, most: Length, usual: Length, header: Bytes, at: usize) -> Verdict
-    ensures { λ r. ⌜ paper r ≡ lengthFault slot (lengthOf most) (lengthOf usual) (header .0) at ⌝ }
+    ensures { λ r. ⌜ verdictSays r ≡ lengthFault slot (lengthSays most) (lengthSays usual) (header .0) at ⌝ }
 {
     let overflow = refuse(is_none(most), LengthFault::LargestLengthOverflows, at);
     let long = refuse(is_over_max(most), LengthFault::LargestLengthTooLong, at);
@@ -155,7 +155,7 @@ fn length_fault(slot: u8, most: Length, usual: Length, header: Bytes, at: usize)
 
 // Length 3, then the tests of the field.
 fn check_expr(slot: u8, e: UsableAlgExpr, named: Named, header: Bytes, at: usize) -> Verdict
-    ensures { λ r. ⌜ paper r ≡ exprFault (header .0) slot at e (fieldIn named) ⌝ }
+    ensures { λ r. ⌜ verdictSays r ≡ exprFault (header .0) slot at e (namedSays named) ⌝ }
 {
     let Named::Is(f) = named else {
         return Verdict::Refused(Refusal::Length(LengthFault::NoSuchField, at));
@@ -165,7 +165,7 @@ fn check_expr(slot: u8, e: UsableAlgExpr, named: Named, header: Bytes, at: usize
 }
 
 fn check_length_field(s: &[u8], header: Bytes, slot: u8) -> Verdict
-    ensures { λ r. ⌜ paper r ≡ slotCheck (now (s .entry)) (header .0) slot ⌝ }
+    ensures { λ r. ⌜ verdictSays r ≡ slotCheck (now (s .entry)) (header .0) slot ⌝ }
 {
     let given = slots::slot_of(s, slot);
     let held = given.held;
@@ -185,9 +185,9 @@ fn is_given(s: &[u8], slot: u8) -> bool
 }
 
 fn check_trees(s: &[u8]) -> Verdict
-    ensures { λ r. ⌜ paper r ≡ first (treeFault (now (s .entry))) (blockCount (now (s .entry))) ⌝ }
+    ensures { λ r. ⌜ verdictSays r ≡ first (treeFault (now (s .entry))) (blockCount (now (s .entry))) ⌝ }
 {
-    let n = s.len() / 512;
+    let n = sheet::block_count(s);
     let mut i = 0;
     while i < n {
         if slots::no_form(sheet::block(s, i)) {
@@ -200,13 +200,13 @@ fn check_trees(s: &[u8]) -> Verdict
 
 // Step 4: the answer on the L blocks of a sheet with this header.
 pub fn check(s: &[u8], header: Header) -> Verdict
-    ensures { λ r. ⌜ paper r ≡ lengthCheck (now (s .entry)) (header .len .0) ⌝ }
+    ensures { λ r. ⌜ verdictSays r ≡ lengthCheck (now (s .entry)) (header .len .0) ⌝ }
 {
     let len = header.len;
     let both = refuse(
         is_given(s, 1) & is_given(s, 2),
         LengthFault::PayloadAndPacketGiven,
-        s.len() / 512,
+        sheet::block_count(s),
     );
     let first = check_length_field(s, len, 0);
     let second = check_length_field(s, len, 1);
@@ -216,7 +216,7 @@ pub fn check(s: &[u8], header: Header) -> Verdict
 
 // The expression of a slot and its field.
 fn used_by(s: &[u8], slot: u8) -> Used
-    ensures { λ r. ⌜ usedOf r ≡ used (now (s .entry)) slot ⌝ }
+    ensures { λ r. ⌜ usedSays r ≡ used (now (s .entry)) slot ⌝ }
 {
     let given = slots::slot_of(s, slot);
     let held = given.held;
@@ -231,7 +231,7 @@ fn used_by(s: &[u8], slot: u8) -> Used
 
 // The length of the largest value of a slot's field.
 pub fn largest_length(s: &[u8], slot: u8) -> Length
-    ensures { λ r. ⌜ lengthOf r ≡ largestLength (now (s .entry)) slot ⌝ }
+    ensures { λ r. ⌜ lengthSays r ≡ largestLength (now (s .entry)) slot ⌝ }
 {
     match used_by(s, slot) {
         Used::By(e, f) => largest(e, f),
@@ -241,7 +241,7 @@ pub fn largest_length(s: &[u8], slot: u8) -> Length
 
 // The length of the default of a slot's field.
 pub fn default_length(s: &[u8], slot: u8) -> Length
-    ensures { λ r. ⌜ lengthOf r ≡ defaultLength (now (s .entry)) slot ⌝ }
+    ensures { λ r. ⌜ lengthSays r ≡ defaultLength (now (s .entry)) slot ⌝ }
 {
     match used_by(s, slot) {
         Used::By(e, f) => of_default(e, f),

@@ -7,7 +7,7 @@ use Prim.Native.Nat.{ℕ, _+_, _*_, _/_, _%_, _^_, _<_, _≤_}
 use native.Mathlib.Omega.{arith}
 use lib.Dec.{eqb}
 use lib.ListN.{length}
-use Rattle.text.specs.Text.{ascii, spaced}
+use Rattle.text.specs.Text.{spaced}
 use Rattle.text.proofs.Lengths.{u64-length, hex-length, no-words-length, spaced-length, line-length}
 use Rattle.answer.specs.declared.Group.{Group}
 use Rattle.types.specs.declared.BuiltinTypes.{BuiltinTypes}
@@ -18,6 +18,7 @@ use Rattle.field.specs.Fields.{writeGuard}
 use Rattle.expr.specs.declared.UsableAlgExpr.{UsableAlgExpr}
 use Rattle.slots.specs.declared.LengthField.{LengthField}
 use Rattle.lines.specs.Lines.{groupName, refusalLine, headerLine, fieldLine, hexWord, templateLine, slotName, undefinedLine, workedLine, lengthLine, rangeWords}
+use Rattle.octets.specs.Ascii.{ascii}
 
 ruleset sizes = (line-length, spaced-length, no-words-length)
 

@@ -2,11 +2,12 @@
 use mathlib.Core.Path.{_≡_, refl}
 use mathlib.Core.List.{[], _∷_}
 use mathlib.Core.Option.{none, some}
-use Rattle.text.specs.Text.{ascii, digits, decimal, hex, spaced, line}
+use Rattle.text.specs.Text.{digits, decimal, hex, spaced, line}
 use Rattle.answer.specs.declared.Group.{Group}
 use Rattle.expr.specs.declared.UsableAlgExpr.{UsableAlgExpr}
 use Rattle.slots.specs.declared.LengthField.{LengthField}
 use Rattle.lines.specs.Lines.{refusalLine, templateLine, undefinedLine, workedLine, lengthLine}
+use Rattle.octets.specs.Ascii.{ascii}
 
 a-refusal : refusalLine Group.Length 12 98 ≡ ascii "refused length 12 98\n"
 unfolding refusalLine line spaced decimal digits

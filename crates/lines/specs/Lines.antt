@@ -1,18 +1,18 @@
 -- The lines of the lister. Assumes nothing.
 use mathlib.Core.Bool.{cond}
-use mathlib.Core.List.{List, [], _∷_, _++_}
+use mathlib.Core.List.{List, [], _∷_}
 use mathlib.Core.Option.{Option, none, some}
-use Prim.Native.Nat.{ℕ, _-_, _/_, _%_}
+use Prim.Native.Nat.{ℕ, _/_, _%_}
 use lib.Dec.{eqb}
-use lib.ListN.{length, replicate}
-use Rattle.text.specs.Text.{ascii, decimal, hex, line}
+use lib.ListN.{length}
+use Rattle.text.specs.Text.{decimal, hex, line}
 use Rattle.answer.specs.declared.Group.{Group}
 use Rattle.types.specs.Types.{typeName}
 use Rattle.field.specs.declared.Field.{Field}
 use Rattle.field.specs.Sound.{widthOf}
 use Rattle.field.specs.Fields.{writeGuard}
 use Rattle.slots.specs.declared.LengthField.{LengthField}
-use Rattle.lines.specs.declared.Word.{Word}
+use Rattle.octets.specs.Ascii.{ascii}
 
 -- ---- refused GROUP NUMBER PLACE
 
@@ -87,8 +87,3 @@ lengthLine slot name largest (LengthField.Expr e) = workedLine slot name largest
 abbrev pub rangeWords : Option (ℕ × ℕ) → List (List ℕ)
 rangeWords (some r) = decimal (r .0) ∷ decimal (r .1) ∷ []
 rangeWords none = []
-
--- ---- inside: a word of up to 11 bytes, zeros after it
-
-abbrev pub wordOf : List ℕ → Word
-wordOf name = record { 0 = name ++ replicate (11 - length name) 0; 1 = length name }

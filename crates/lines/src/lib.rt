@@ -24,9 +24,10 @@ ghost use Rattle.text.specs.Text.{spaced};
 ghost use Rattle.text.specs.Output.{emit};
 ghost use Rattle.answer.specs.Paper.{groupOf, numberOf, placeOf};
 ghost use Rattle.types.specs.Types.{typeName};
-ghost use Rattle.expr.specs.Forms.{lengthOf};
-ghost use Rattle.bounds.specs.Bounds.{numbersOf};
-ghost use Rattle.lines.specs.Lines.{groupName, refusalLine, headerLine, fieldLine, hexWord, templateLine, slotName, numberWord, undefinedLine, workedLine, lengthLine, rangeWords, wordOf};
+ghost use Rattle.expr.specs.Forms.{lengthSays};
+ghost use Rattle.bounds.specs.Bounds.{firstLastSays};
+ghost use Rattle.lines.specs.Lines.{groupName, refusalLine, headerLine, fieldLine, hexWord, templateLine, slotName, numberWord, undefinedLine, workedLine, lengthLine, rangeWords};
+ghost use Rattle.lines.specs.Working.{wordOf};
 
 // A short word: so many of the bytes.
 struct Word([u8; 11], usize);
@@ -119,7 +120,7 @@ pub fn put_field(
     ensures { λ r. ⌜ (now (out .exit), r) ≡ emit (fieldLine index (start .0) f (now (name .entry))) (now (out .entry), to) ⌝ }
 {
     let at = BitPos::new(start);
-    let width = f.bit;
+    let width = f.width;
     let repr = f.repr;
     let guard = f.need_write_guard();
     let p = put_bytes(out, to, b"field");
@@ -153,7 +154,7 @@ pub fn put_template(out: &mut [u8], to: Cursor, bytes: &[u8]) -> Cursor
 }
 
 fn put_largest(out: &mut [u8], to: Cursor, largest: Length) -> Cursor
-    ensures { λ r. ⌜ (now (out .exit), r) ≡ emit (spaced (numberWord (lengthOf largest))) (now (out .entry), to) ⌝ }
+    ensures { λ r. ⌜ (now (out .exit), r) ≡ emit (spaced (numberWord (lengthSays largest))) (now (out .entry), to) ⌝ }
 {
     match largest {
         Length::Is(n) => put_number(out, to, n.0),
@@ -173,7 +174,7 @@ fn put_undefined(out: &mut [u8], to: Cursor, slot: u8) -> Cursor
 
 // `length SLOT NAME LARGEST`
 fn put_worked(out: &mut [u8], to: Cursor, slot: u8, name: &[u8], largest: Length) -> Cursor
-    ensures { λ r. ⌜ (now (out .exit), r) ≡ emit (workedLine slot (now (name .entry)) (lengthOf largest)) (now (out .entry), to) ⌝ }
+    ensures { λ r. ⌜ (now (out .exit), r) ≡ emit (workedLine slot (now (name .entry)) (lengthSays largest)) (now (out .entry), to) ⌝ }
 {
     let p = put_bytes(out, to, b"length");
     let p = put_short(out, p, slot_word(slot));
@@ -191,7 +192,7 @@ pub fn put_length(
     largest: Length,
     held: LengthField,
 ) -> Cursor
-    ensures { λ r. ⌜ (now (out .exit), r) ≡ emit (lengthLine slot (now (name .entry)) (lengthOf largest) held) (now (out .entry), to) ⌝ }
+    ensures { λ r. ⌜ (now (out .exit), r) ≡ emit (lengthLine slot (now (name .entry)) (lengthSays largest) held) (now (out .entry), to) ⌝ }
 {
     match held {
         LengthField::Absent => to,
@@ -202,7 +203,7 @@ pub fn put_length(
 
 // The first and the last number of a range, as words.
 pub fn put_range(out: &mut [u8], to: Cursor, range: FirstLast) -> Cursor
-    ensures { λ r. ⌜ (now (out .exit), r) ≡ emit (spaced (rangeWords (numbersOf range))) (now (out .entry), to) ⌝ }
+    ensures { λ r. ⌜ (now (out .exit), r) ≡ emit (spaced (rangeWords (firstLastSays range))) (now (out .entry), to) ⌝ }
 {
     match range {
         FirstLast::Are(first, last) => {

@@ -5,7 +5,7 @@ use libc::STDOUT_FILENO;
 // Reads what is left of the input and looks at none of it, so that whoever writes it comes to an end.
 fn read_rest() {
     let mut rest = io::large_buffer();
-    for _ in 0..18446744073709551615u64 {
+    for _ in 0..u64::MAX {
         if io::read_full(STDIN_FILENO, &mut rest) == 0 {
             return;
         }

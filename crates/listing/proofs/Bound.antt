@@ -1,92 +1,49 @@
 -- Every text that is printed has at most 40,000 bytes: a refusal is one short line; a listing has at most 64 fields, a template of at most 8,192 bytes, three
 -- lengths, and 8 conditions with at most 24 ranges each. Assumes nothing.
-use mathlib.Core.Path.{_≡_, refl, sym}
+use mathlib.Core.Path.{_≡_, refl}
 use mathlib.Core.Bool.{Bool, true, false, cond, _&&_}
-use mathlib.Core.List.{List, [], _∷_}
+use mathlib.Core.List.{List}
 use mathlib.Core.Option.{Option, none, some}
 use Prim.Native.Nat.{ℕ, zero, suc, _+_, _*_, _^_, _≤_, _<_}
 use native.Mathlib.Nat.{le-refl, lt-of-le-of-lt, suc-mul}
 use native.Mathlib.Decide.{decLt}
 use native.Mathlib.Omega.{arith}
-use lib.Dec.{ltb, eqb}
-use lib.ListN.{length, take, length-append, length-take, length-drop}
-use borrow.Author.Tests.{ltb-true, ltb-false, le-ltb, leb-true, eqb-true}
+use lib.Dec.{ltb}
+use lib.ListN.{length, length-append}
+use borrow.Author.Tests.{ltb-true, ltb-false, le-ltb}
 use Rattle.text.specs.Text.{spaced}
 use Rattle.text.proofs.Lengths.{no-words-length, spaced-length, line-length, texts-length}
 use Rattle.answer.specs.Paper.{Check, gives, refused}
-use Rattle.answer.proofs.Tests.{clash, both-hold}
-use Rattle.octets.specs.Octets.{byte, all, allIn, isZero}
-use Rattle.blocks.specs.Layout.{kindOf, isF, isL, isC, named, nameOf, unnamed, fLayout, lLayout, cLayout, layoutHolds}
+use Rattle.answer.proofs.Tests.{both-hold}
+use Rattle.answer.specs.Walk.{orZero}
+use Rattle.blocks.specs.Layout.{nameOf, rangeCount}
+use Rattle.blocks.proofs.Told.{name-short, few-ranges}
 use Rattle.sheet.specs.Blocks.{blockCount, blockAt, fieldCount, condCount}
-use Rattle.sheet.specs.Accepted as sheet
-use Rattle.sheet.proofs.Accepted.{accepted-is}
-use Rattle.fields.specs.Step.{fieldAt}
+use Rattle.sheet.specs.SheetIs as sheet
+use Rattle.sheet.proofs.SheetIs.{sheet-is}
+use Rattle.field_blocks.specs.Step.{fieldAt}
 use Rattle.layout.specs.Layout.{template}
 use Rattle.header.specs.Names.{nameAt, fieldNamed}
-use Rattle.header.specs.Places.{startAt, layoutOf}
+use Rattle.header.specs.Starts.{startAt, headerLayout}
 use Rattle.header.specs.Step.{headerBytes}
-use Rattle.header.proofs.Places.{field-inside}
-use Rattle.slots.specs.Slots.{placeOf, blockOfSlot, lengthField}
+use Rattle.header.proofs.Starts.{field-inside}
+use Rattle.slots.specs.Slots.{blockOfSlot, lengthField}
 use Rattle.length.specs.Step.{largestLength}
 use Rattle.bounds.specs.declared.Bound.{Bound}
 use Rattle.bounds.specs.Bounds.{toEnd, firstOf, clippedEnd, lastOf}
-use Rattle.cond.specs.Ranges.{rangeCount, rangeIn, largestOf}
+use Rattle.cond.specs.Ranges.{rangeIn, largestOf}
 use Rattle.cond.specs.Step.{isEntry, numbersIn, rangeNumbers}
-use Rattle.cond.proofs.Conditions.{conditions-are}
+use Rattle.cond.proofs.ConditionsAre.{conditions-are}
 use Rattle.definition.specs.Definition.{Accepted}
-use Rattle.definition.proofs.Laws.{Passed, passed-all}
+use Rattle.definition.proofs.Steps.{FiveSteps, five-steps, whole-bytes, few-bytes}
 use Rattle.definition.proofs.Given.{largest-fits, slot-given}
 use Rattle.definition.proofs.Within.{Within, stops, chains, definition-within}
 use Rattle.template.specs.Template.{templateCheck}
-use Rattle.template.proofs.Steps.{whole-bytes, few-bytes}
+use Rattle.template.proofs.Built.{room-is}
 use Rattle.lines.proofs.Lengths.{refusal-length, header-length, field-length, template-length, slot-line-length, Small, range-length}
 use Rattle.listing.specs.Listing.{fieldText, slotText, rangesFrom, condText, firstCond, listing, textOf, printed}
-use Rattle.listing.proofs.Laws.{spaced-append}
-use Rattle.listing.proofs.Accepted.{has-room, template-bytes}
-
--- ---- what the layout of a block tells
-
--- of tests that hold together, each
-left-holds : (a b : Bool) → (a && b) ≡ true → a ≡ true
-left-holds a b e = both-hold a b e .0
-
-right-holds : (a b : Bool) → (a && b) ≡ true → b ≡ true
-right-holds a b e = both-hold a b e .1
-
-ruleset parts = (left-holds, right-holds)
-
--- of two, whichever is made
-either-way : {P : Type 0} (test a b : Bool) → (a ≡ true → P) → (b ≡ true → P) → cond test a b ≡ true → P
-either-way true a b p q h = p h
-either-way false a b p q h = q h
-
-named-short : (b : List ℕ) → named b ≡ true → byte b 1 ≤ 64
-unfolding named
-named-short b h = leb-true (byte b 1) 64 (search parts)
-
-unnamed-short : (b : List ℕ) → unnamed b ≡ true → byte b 1 ≤ 64
-unfolding allIn all isZero
-unnamed-short [] h = omega arith
-unnamed-short (x ∷ []) h = omega arith
-unnamed-short (x ∷ y ∷ t) h = omega (arith, eqb-true y 0 (both-hold (eqb y 0) _ h .0))
-
--- a block of any kind has a name of at most 64 bytes
-layout-short : (b : List ℕ) → layoutHolds b ≡ true → byte b 1 ≤ 64
-unfolding layoutHolds fLayout lLayout cLayout
-layout-short b =
-    either-way (isF (kindOf b)) (fLayout b) _ (λ h. named-short b (search parts))
-    (either-way (isL (kindOf b)) (lLayout b) _
-    (λ h. either-way (eqb (byte b 67) 0) (unnamed b) (named b) (unnamed-short b) (named-short b) (search parts))
-    (either-way (isC (kindOf b)) (cLayout b) false (λ h. named-short b (search parts)) (λ h. clash (sym h))))
-
-name-short : (b : List ℕ) → layoutHolds b ≡ true → length (nameOf b) ≤ 64
-unfolding nameOf
-name-short b h = omega (arith, length-drop 2 (take (2 + byte b 1) b), length-take (2 + byte b 1) b, layout-short b h)
-
--- a C block has at most 24 ranges
-few-ranges : (b : List ℕ) → kindOf b ≡ 67 → layoutHolds b ≡ true → rangeCount b ≤ 24
-unfolding layoutHolds cLayout
-few-ranges b k h = let holds : cLayout b ≡ true = rw k at h in leb-true (byte b 66) 24 (search parts)
+use Rattle.listing.proofs.Wrote.{spaced-append}
+use Rattle.listing.proofs.Told.{template-bytes}
 
 -- ---- the numbers of a range
 
@@ -131,11 +88,11 @@ ranges-length s i j (suc n) =
 -- ---- the lines of an accepted sheet
 
 module _ (s : List ℕ) (ok : Accepted s) where
-  steps : Passed s
-  steps = passed-all s ok
+  steps : FiveSteps s
+  steps = five-steps s ok
 
-  whole : sheet.Accepted s
-  whole = accepted-is s .0 (steps .sheet)
+  whole : sheet.SheetIs s
+  whole = sheet-is s .0 (steps .sheet)
 
   -- the name in any block; past the last there is none
   names-short : (i : ℕ) → length (nameAt s i) ≤ 64
@@ -155,7 +112,7 @@ module _ (s : List ℕ) (ok : Accepted s) where
 
   slot-text-length : (slot : ℕ) → slot < 3 → length (slotText s slot) ≤ 105
   slot-text-length slot h =
-      slot-line-length slot (nameAt s (placeOf (blockOfSlot s slot))) (largestLength s slot) (lengthField s slot) (names-short (placeOf (blockOfSlot s slot)))
+      slot-line-length slot (nameAt s (orZero (blockOfSlot s slot))) (largestLength s slot) (lengthField s slot) (names-short (orZero (blockOfSlot s slot)))
       (λ e is. let most = slot-given s ok slot e h is in (most .0, most .1, omega (arith, most .2)))
 
   cond-text-length : (i : ℕ) → firstCond s ≤ i → i < firstCond s + condCount s → length (condText s i) ≤ 1078
@@ -174,7 +131,7 @@ module _ (s : List ℕ) (ok : Accepted s) where
         header-length (headerBytes s) (omega arith),
         texts-length (fieldText s) 182 0 (fieldCount s) (λ i _ l. field-text-length i l),
         whole .most-fields,
-        template-length (template (layoutOf s)),
+        template-length (template (headerLayout s)),
         template-bytes s ok,
         slot-text-length 0 (omega arith),
         slot-text-length 1 (omega arith),
@@ -192,7 +149,7 @@ module _ (s : List ℕ) (addressed : length s < 2 ^ 64) where
   template-within = search (chains, definition-within, le-refl)
 
   of-answer : (x : Check) → templateCheck s 8192 ≡ x → Within (blockCount s) x → length (textOf s x) ≤ 40000
-  of-answer (gives _) is w = let fits = has-room s 8192 is in listing-length s (fits .0) (fits .1)
+  of-answer (gives _) is w = let fits = room-is s 8192 .0 is in listing-length s (fits .0) (fits .1)
   of-answer (refused g n at) is (stops few near) = omega (arith, refusal-length g n at (omega arith) (omega arith))
 
   pub every-listing : length (printed s) ≤ 40000

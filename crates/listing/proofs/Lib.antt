@@ -1,4 +1,4 @@
-pub mod Laws
-pub mod Accepted
+pub mod Wrote
+pub mod Told
 pub mod Bound
 pub mod Whole

@@ -3,20 +3,22 @@ use mathlib.Core.Path.{_≡_}
 use mathlib.Core.List.{List, [], _∷_, _++_}
 use Prim.Native.Nat.{ℕ, zero, suc, _+_, min}
 use lib.ListN.{length, take, drop}
-use Rattle.text.specs.Text.{ascii, line, texts}
+use Rattle.text.specs.Text.{line, texts}
 use Rattle.answer.specs.Paper.{Check, gives, refused}
+use Rattle.answer.specs.Walk.{orZero}
 use Rattle.sheet.specs.Blocks.{blockAt, fieldCount, lengthCount, condCount}
-use Rattle.fields.specs.Step.{fieldAt}
+use Rattle.field_blocks.specs.Step.{fieldAt}
 use Rattle.layout.specs.Layout.{template}
 use Rattle.header.specs.Names.{nameAt}
-use Rattle.header.specs.Places.{startAt, layoutOf}
+use Rattle.header.specs.Starts.{startAt, headerLayout}
 use Rattle.header.specs.Step.{headerBytes}
-use Rattle.slots.specs.Slots.{placeOf, blockOfSlot, lengthField}
+use Rattle.slots.specs.Slots.{blockOfSlot, lengthField}
 use Rattle.length.specs.Step.{largestLength}
-use Rattle.cond.specs.Ranges.{rangeCount}
 use Rattle.cond.specs.Step.{rangeNumbers}
 use Rattle.template.specs.Template.{templateCheck}
 use Rattle.lines.specs.Lines.{refusalLine, headerLine, fieldLine, templateLine, lengthLine, rangeWords}
+use Rattle.octets.specs.Ascii.{ascii}
+use Rattle.blocks.specs.Layout.{rangeCount}
 
 -- ---- the lines of an accepted sheet
 
@@ -26,7 +28,7 @@ fieldText s i = fieldLine i (startAt s i) (fieldAt s i) (nameAt s i)
 
 -- a length slot; its name is that of the field in its block
 abbrev pub slotText : List ℕ → ℕ → List ℕ
-slotText s slot = lengthLine slot (nameAt s (placeOf (blockOfSlot s slot))) (largestLength s slot) (lengthField s slot)
+slotText s slot = lengthLine slot (nameAt s (orZero (blockOfSlot s slot))) (largestLength s slot) (lengthField s slot)
 
 -- the condition in block i: its name, then first and last of each range from the j-th on
 unfoldable pub rangesFrom : List ℕ → ℕ → ℕ → ℕ → List (List ℕ)
@@ -45,7 +47,7 @@ unfoldable pub listing : List ℕ → List ℕ
 listing s =
     headerLine (headerBytes s)
     ++ (texts (fieldText s) 0 (fieldCount s)
-    ++ (templateLine (template (layoutOf s))
+    ++ (templateLine (template (headerLayout s))
     ++ (slotText s 0
     ++ (slotText s 1
     ++ (slotText s 2

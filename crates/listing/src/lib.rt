@@ -3,7 +3,6 @@ use answer::Verdict;
 use header::Header;
 use header::NewHeader;
 use number::Bits;
-use octets::byte_at;
 use octets::part;
 use text::Cursor;
 use text::put_byte;
@@ -15,7 +14,7 @@ ghost use lib.Seq.{slice};
 ghost use Rattle.text.specs.Text.{spaced, texts};
 ghost use Rattle.text.specs.Output.{emit};
 ghost use Rattle.layout.specs.Layout.{template};
-ghost use Rattle.header.specs.Places.{layoutOf};
+ghost use Rattle.header.specs.Starts.{headerLayout};
 ghost use Rattle.header.specs.Step.{headerBytes};
 ghost use Rattle.definition.specs.Definition.{Accepted};
 ghost use Rattle.listing.specs.Listing.{fieldText, slotText, rangesFrom, condText, listing, printed, Listed};
@@ -30,9 +29,9 @@ fn put_fields(out: &mut [u8], to: Cursor, s: &[u8], n: usize) -> Cursor
     let mut i = 0;
     while i < n {
         let b = sheet::block(s, i);
-        let f = fields::resolved(b);
+        let f = field_blocks::resolved(b);
         p = lines::put_field(out, p, i, start, f, blocks::name(b));
-        start = Bits(start.0 + f.bit.0);
+        start = Bits(start.0 + f.width.0);
         i += 1;
     }
     p
@@ -42,7 +41,7 @@ fn put_fields(out: &mut [u8], to: Cursor, s: &[u8], n: usize) -> Cursor
 fn put_slot(out: &mut [u8], to: Cursor, s: &[u8], slot: u8) -> Cursor
     ensures { λ r. ⌜ (now (out .exit), r) ≡ emit (slotText (now (s .entry)) slot) (now (out .entry), to) ⌝ }
 {
-    let l = definition::length_slot(s, slot);
+    let l = definition::unchecked_length_slot(s, slot);
     let held = l.held;
     let largest = l.largest;
     let at = l.at;
@@ -76,7 +75,7 @@ fn put_cond(out: &mut [u8], to: Cursor, s: &[u8], i: usize) -> Cursor
     let b = sheet::block(s, i);
     let p = put_bytes(out, to, b"cond");
     let p = put_word(out, p, blocks::name(b));
-    let p = put_ranges(out, p, s, i, byte_at(b, 66));
+    let p = put_ranges(out, p, s, i, blocks::range_count(b));
     put_byte(out, p, b'\n')
 }
 
@@ -96,7 +95,7 @@ fn put_conds(out: &mut [u8], to: Cursor, s: &[u8], a: usize, e: usize) -> Cursor
 // All lines of an accepted sheet, whose template is at the front of `buf`.
 fn put_listing(out: &mut [u8], s: &[u8], buf: &[u8]) -> Cursor
     requires { ⌜ Accepted (now s) ⌝ }
-    requires { ⌜ slice 0 (headerBytes (now s)) (now buf) ≡ template (layoutOf (now s)) ⌝ }
+    requires { ⌜ slice 0 (headerBytes (now s)) (now buf) ≡ template (headerLayout (now s)) ⌝ }
     ensures { λ r. ⌜ (now (out .exit), r) ≡ emit (listing (now (s .entry))) (now (out .entry), Cursor.At 0) ⌝ }
 {
     let NewHeader::Is(h) = Header::new(s) else {
@@ -105,13 +104,14 @@ fn put_listing(out: &mut [u8], s: &[u8], buf: &[u8]) -> Cursor
     let len = h.len;
     let n = sheet::block_counts(s);
     let first = n.fields + n.lengths;
+    let end = first + n.conds;
     let p = lines::put_header(out, Cursor::At(0), len);
     let p = put_fields(out, p, s, n.fields);
     let p = lines::put_template(out, p, part(buf, 0, len.0 as usize));
     let p = put_slot(out, p, s, 0);
     let p = put_slot(out, p, s, 1);
     let p = put_slot(out, p, s, 2);
-    put_conds(out, p, s, first, first + n.conds)
+    put_conds(out, p, s, first, end)
 }
 
 // The listing, or the line of the refusal.

@@ -1,36 +1,42 @@
-// Packed texts: runs of bytes, each after a gap, that are laid over a buffer. A run is 2 bytes for the gap, big-endian, which is how many bytes of the
-// buffer are left as they are before it; 1 byte for its count; and as many bytes. Past the end of the text there are zeros, and no bytes of a run.
-use bits::BytesWrite;
-use number::Bytes;
-ghost use mathlib.Core.Path.{_≡_};
-ghost use Rattle.packed.specs.Packed.{laid, unpacked};
+// Packed texts, for the programs that test: runs of bytes, each after a gap. A run is 2 bytes for the gap, big-endian, which is how many zeros stand before
+// it; 1 byte for its count; and as many bytes. A text is unpacked over zeros, whole or in pieces.
+ghost use Prim.Native.Nat.{_<_, _^_};
 
-// Lays a run over a buffer, and says whether it fits.
-fn lay(out: &mut [u8], at: usize, run: &[u8]) -> bool
-    ensures { λ r. ⌜ (now (out .exit), r) ≡ laid (now (out .entry)) at (now (run .entry)) ⌝ }
-{
-    match bits::write_bytes(out, Bytes(at as u64), run) {
-        BytesWrite::Done => true,
-        BytesWrite::Outside => false,
+// No text is longer unpacked.
+const LONGEST: usize = 4294967296;
+
+// Sets byte `at` of a text in a piece of it that begins at byte `first`, where the piece has it.
+fn put(piece: &mut [u8], first: usize, at: usize, b: u8) {
+    if at < first {
+        return;
+    }
+    let i = at - first;
+    if i < piece.len() {
+        piece[i] = b;
     }
 }
 
-// Lays the runs of a packed text over a buffer, and says whether every run fits; the first that does not is where it stops.
-pub fn unpack(packed: &[u8], out: &mut [u8]) -> bool
-    ensures { λ r. ⌜ (now (out .exit), r) ≡ unpacked (now (packed .entry)) (now (out .entry)) ⌝ }
+// Lays the runs of a packed text over a piece of the text that begins at byte `first`. Says where the last run ends by its count.
+pub fn unpack(packed: &[u8], first: usize, piece: &mut [u8]) -> usize
+    ensures { λ r. ⌜ r < 2 ^ 33 ⌝ }
 {
     let mut from: usize = 0;
     let mut to: usize = 0;
+    let mut left: u8 = 0;
     while from < packed.len() {
-        let gap = octets::be16(packed, from) as usize;
-        let n = octets::byte_at(packed, from + 2) as usize;
-        let end = from + 3 + n;
-        let at = to + gap;
-        if !lay(out, at, octets::part(packed, from + 3, end)) {
-            return false;
+        if LONGEST < to {
+            return to;
         }
-        from = end;
-        to = at + n;
+        if left == 0 {
+            to += octets::be16(packed, from) as usize;
+            left = octets::byte_at(packed, from + 2);
+            from += 3;
+        } else {
+            put(piece, first, to, packed[from]);
+            to += 1;
+            left -= 1;
+            from += 1;
+        }
     }
-    true
+    to + left as usize
 }

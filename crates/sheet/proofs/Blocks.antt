@@ -1,15 +1,24 @@
--- Laws of the blocks of a sheet: the counts of kinds, block by block. Assumes nothing.
-use mathlib.Core.Path.{_≡_, refl}
+-- Laws of the blocks of a sheet: how long one is, and the counts of kinds, block by block. Assumes nothing.
+use mathlib.Core.Path.{_≡_, refl, _∙_}
 use mathlib.Core.Bool.{Bool, true, false, cond}
 use mathlib.Core.List.{List}
-use Prim.Native.Nat.{ℕ, zero, suc, _+_, _≤_}
+use Prim.Native.Nat.{ℕ, zero, suc, _+_, _*_, _≤_, _<_}
 use native.Mathlib.Numerals.{add-one}
 use native.Mathlib.Omega.{arith}
 use lib.Dec.{lit≤}
+use lib.ListN.{length}
+use lib.Seq.{length-slice}
+use borrow.Author.Tests.{lt-ltb}
 use Rattle.sheet.specs.declared.Counts.{Counts}
 use Rattle.sheet.specs.declared.SlotBlock.{SlotBlock}
-use Rattle.blocks.specs.Layout.{kindOf, isF, isL, isC}
-use Rattle.sheet.specs.Blocks.{blockAt, count, countsOf, counted, blockOf}
+use Rattle.blocks.specs.Layout.{blockSize, kindOf, isF, isL, isC}
+use Rattle.sheet.specs.Blocks.{blockCount, blockAt, count, countsOf, slotBlockSays}
+use Rattle.sheet.specs.Working.{counted}
+
+-- a block is whole
+pub block-long : (s : List ℕ) (i : ℕ) → i < blockCount s → length (blockAt s i) ≡ blockSize
+unfolding blockAt
+block-long s i h = rw (lt-ltb i (blockCount s) h) (length-slice (blockSize * i) (blockSize * i + blockSize) s (omega arith) ∙ omega arith)
 
 -- one more or none
 one-le : (test : Bool) → cond test 1 0 ≤ 1
@@ -35,7 +44,7 @@ module _ (s : List ℕ) where
   counts-le i e = rw e (count-le isF i, count-le isL i, count-le isC i)
 
 -- one answer: what the program's answer says of a slot tells answers apart
-pub slot-one : (p q : SlotBlock) → blockOf p ≡ blockOf q → p ≡ q
+pub slot-one : (p q : SlotBlock) → slotBlockSays p ≡ slotBlockSays q → p ≡ q
 slot-one (SlotBlock.At i) (SlotBlock.At j) e = cc
 slot-one (SlotBlock.At i) SlotBlock.None e = cc
 slot-one SlotBlock.None (SlotBlock.At j) e = cc

@@ -1,3 +1,2 @@
-pub mod Walk
 pub mod Blocks
-pub mod Accepted
+pub mod SheetIs

@@ -6,26 +6,28 @@ use Prim.Native.Nat.{ℕ, zero, suc, _+_, _*_, _/_}
 use lib.Dec.{ltb, eqb}
 use lib.ListN.{length}
 use lib.Seq.{slice}
-use Rattle.octets.specs.Octets.{byte}
-use Rattle.blocks.specs.Layout.{kindOf, isF, isL, isC}
+use Rattle.blocks.specs.Layout.{blockSize, kindOf, isF, isL, isC, statedSlot}
 use Rattle.sheet.specs.declared.Counts.{Counts}
 use Rattle.sheet.specs.declared.SlotBlock.{SlotBlock}
-use Rattle.sheet.specs.Walk.{firstWhere}
+use Rattle.answer.specs.Walk.{firstWhere}
 
--- how many whole blocks of 512 bytes
+-- how many whole blocks
 abbrev pub blockCount : List ℕ → ℕ
-blockCount s = length s / 512
+blockCount s = length s / blockSize
 
 -- block i; past the last whole one there is nothing
 unfoldable pub blockAt : List ℕ → ℕ → List ℕ
-blockAt s i = cond (ltb i (blockCount s)) (slice (512 * i) (512 * i + 512) s) []
+blockAt s i = cond (ltb i (blockCount s)) (slice (blockSize * i) (blockSize * i + blockSize) s) []
 
 -- ---- kinds
+
+abbrev pub kindAt : List ℕ → ℕ → ℕ
+kindAt s i = kindOf (blockAt s i)
 
 -- how many of the first n blocks are of a kind
 unfoldable pub count : (ℕ → Bool) → List ℕ → ℕ → ℕ
 count isKind s zero = 0
-count isKind s (suc n) = count isKind s n + cond (isKind (kindOf (blockAt s n))) 1 0
+count isKind s (suc n) = count isKind s n + cond (isKind (kindAt s n)) 1 0
 
 -- the same for all three
 abbrev pub countsOf : List ℕ → ℕ → Counts
@@ -41,21 +43,16 @@ lengthCount s = count isL s (blockCount s)
 abbrev pub condCount : List ℕ → ℕ
 condCount s = count isC s (blockCount s)
 
--- with one block more, of this kind
-abbrev pub counted : Counts → ℕ → Counts
-counted c kind =
-    record { fields = c .fields + cond (isF kind) 1 0; lengths = c .lengths + cond (isL kind) 1 0; conds = c .conds + cond (isC kind) 1 0 }
-
--- ---- slots: byte 66 of an L block
+-- ---- slots
 
 abbrev pub isSlot : ℕ → List ℕ → Bool
-isSlot slot b = isL (kindOf b) && eqb (byte b 66) slot
+isSlot slot b = isL (kindOf b) && eqb (statedSlot b) slot
 
 -- the first of the first n blocks that gives a slot
 abbrev pub slotBlock : List ℕ → ℕ → ℕ → Option ℕ
 slotBlock s slot n = firstWhere (λ i. isSlot slot (blockAt s i)) n
 
 -- what the program's answer says
-abbrev pub blockOf : SlotBlock → Option ℕ
-blockOf (SlotBlock.At i) = some i
-blockOf SlotBlock.None = none
+abbrev pub slotBlockSays : SlotBlock → Option ℕ
+slotBlockSays (SlotBlock.At i) = some i
+slotBlockSays SlotBlock.None = none

@@ -1,4 +1,4 @@
-pub mod Walk
 pub mod Blocks
 pub mod Sheet
-pub mod Accepted
+pub mod SheetIs
+pub mod Working

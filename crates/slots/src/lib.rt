@@ -1,13 +1,12 @@
 // Length slots: what the L blocks of a sheet hold, each one of the five forms, a tree that is one, or neither.
 use expr::UsableAlgExpr;
-use octets::be64;
-use octets::byte_at;
 use sheet::SlotBlock;
 use tree::Usable;
 ghost use mathlib.Core.Path.{_≡_};
 ghost use mathlib.Core.Bool.{_&&_};
-ghost use Rattle.tree.specs.Tree.{exprOf};
-ghost use Rattle.slots.specs.Slots.{rootIn, treeIn, exprIn, held, placeOf, blockOfSlot, lengthField, isTree, noForm};
+ghost use Rattle.tree.specs.Tree.{usableSays};
+ghost use Rattle.slots.specs.Slots.{rootIn, treeIn, exprIn, held, blockOfSlot, lengthField, isTree, noForm};
+ghost use Rattle.answer.specs.Walk.{orZero};
 
 // What a slot holds: no block gives it; it is given without an expression; or with one.
 pub enum LengthField {
@@ -28,7 +27,7 @@ pub struct Slot {
 fn root_in(b: &[u8]) -> u8
     ensures { λ r. ⌜ r ≡ rootIn (now (b .entry)) ⌝ }
 {
-    let count = byte_at(b, 84);
+    let count = blocks::node_count(b);
     if count == 0 {
         return 0;
     }
@@ -36,17 +35,17 @@ fn root_in(b: &[u8]) -> u8
 }
 
 fn tree_in(b: &[u8]) -> Usable
-    ensures { λ r. ⌜ exprOf r ≡ treeIn (now (b .entry)) ⌝ }
+    ensures { λ r. ⌜ usableSays r ≡ treeIn (now (b .entry)) ⌝ }
 {
     tree::try_take_usable_alg_expr(blocks::nodes::nodes_of(b), root_in(b))
 }
 
 fn expr_in(b: &[u8]) -> Usable
-    ensures { λ r. ⌜ exprOf r ≡ exprIn (now (b .entry)) ⌝ }
+    ensures { λ r. ⌜ usableSays r ≡ exprIn (now (b .entry)) ⌝ }
 {
-    let one = be64(b, 68);
-    let two = be64(b, 76);
-    match byte_at(b, 67) {
+    let one = blocks::first_number(b);
+    let two = blocks::second_number(b);
+    match blocks::stated_form(b) {
         1 => Usable::Expr(UsableAlgExpr::IdentOnly),
         2 => Usable::Expr(UsableAlgExpr::SimpleAdd(one)),
         3 => Usable::Expr(UsableAlgExpr::SimpleMult(one)),
@@ -68,7 +67,7 @@ fn held_in(b: &[u8]) -> LengthField
 
 // What a slot holds, and the block that gives it.
 pub fn slot_of(s: &[u8], slot: u8) -> Slot
-    ensures { λ r. ⌜ (r .held ≡ lengthField (now (s .entry)) slot) × (r .at ≡ placeOf (blockOfSlot (now (s .entry)) slot)) ⌝ }
+    ensures { λ r. ⌜ (r .held ≡ lengthField (now (s .entry)) slot) × (r .at ≡ orZero (blockOfSlot (now (s .entry)) slot)) ⌝ }
 {
     match sheet::slot_block(s, slot) {
         SlotBlock::At(i) => Slot {
@@ -87,11 +86,11 @@ pub fn slot_of(s: &[u8], slot: u8) -> Slot
 fn is_tree(b: &[u8]) -> bool
     ensures { λ r. ⌜ r ≡ isTree (now (b .entry)) ⌝ }
 {
-    (byte_at(b, 0) == b'L') & (byte_at(b, 67) == 6)
+    (blocks::kind(b) == b'L') & (blocks::stated_form(b) == blocks::TREE)
 }
 
 fn lacks_form(e: Usable) -> bool
-    ensures { λ r. ⌜ r ≡ noForm (exprOf e) ⌝ }
+    ensures { λ r. ⌜ r ≡ noForm (usableSays e) ⌝ }
 {
     match e {
         Usable::Expr(_) => false,

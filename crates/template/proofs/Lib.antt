@@ -1,3 +1,3 @@
-pub mod Laws
+pub mod Filling
 pub mod Steps
 pub mod Built

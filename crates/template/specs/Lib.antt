@@ -1,1 +1,2 @@
 pub mod Template
+pub mod Working

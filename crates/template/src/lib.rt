@@ -20,10 +20,11 @@ ghost use Rattle.bits.specs.Bits.{spelled};
 ghost use Rattle.bits.specs.Writes.{put};
 ghost use Rattle.sheet.specs.Blocks.{fieldCount};
 ghost use Rattle.layout.specs.Layout.{Filled};
-ghost use Rattle.header.specs.Places.{defaultNumber, layoutOf, bitsOf};
+ghost use Rattle.header.specs.Starts.{defaultNumber, headerLayout, bitsOf};
 ghost use Rattle.header.specs.Step.{headerOf};
 ghost use Rattle.definition.specs.Definition.{Accepted};
-ghost use Rattle.template.specs.Template.{TemplateBuilt, Fillable};
+ghost use Rattle.template.specs.Template.{TemplateBuilt};
+ghost use Rattle.template.specs.Working.{Fillable};
 
 // Fills a byte slice with the bytes of the span, or with zeros where none are stated.
 fn fill_bytes(buf: &mut [u8], from: Bytes, count: Bytes, b: &[u8], span: Span)
@@ -42,17 +43,17 @@ fn fill_bytes(buf: &mut [u8], from: Bytes, count: Bytes, b: &[u8], span: Span)
 // Fills a field with its default.
 fn fill_field(buf: &mut [u8], b: &[u8], f: Field, start: Bits)
     requires { ⌜ Fillable (now buf) (now b) f (start .0) ⌝ }
-    ensures { λ _. ⌜ now (buf .exit) ≡ put (now (buf .entry)) (start .0) (f .bit .0) (defaultNumber (now (b .entry)) (f .default)) ⌝ }
+    ensures { λ _. ⌜ now (buf .exit) ≡ put (now (buf .entry)) (start .0) (f .width .0) (defaultNumber (now (b .entry)) (f .default)) ⌝ }
 {
-    let bit = f.bit;
+    let width = f.width;
     let default = f.default;
     match default {
         DefaultVal::Num(n) => {
-            bits::write_number(buf, BitPos::new(start), bit, n);
+            bits::write_number(buf, BitPos::new(start), width, n);
         }
         DefaultVal::Bool(_) => {} // no field has one
         DefaultVal::Bytes(span) => {
-            fill_bytes(buf, start.whole_bytes(), bit.whole_bytes(), b, span);
+            fill_bytes(buf, start.whole_bytes(), width.whole_bytes(), b, span);
         }
     }
 }
@@ -61,15 +62,15 @@ fn fill_field(buf: &mut [u8], b: &[u8], f: Field, start: Bits)
 fn fill(s: &[u8], buf: &mut [u8], n: usize)
     requires { ⌜ Accepted (now s) ⌝ }
     requires { ⌜ (n ≡ fieldCount (now s)) × (bitsOf (now s) ≤ 8 * length (now buf)) ⌝ }
-    ensures { λ _. ⌜ Filled (layoutOf (now (s .entry))) (fieldCount (now (s .entry))) (now (buf .entry)) (now (buf .exit)) ⌝ }
+    ensures { λ _. ⌜ Filled (headerLayout (now (s .entry))) (fieldCount (now (s .entry))) (now (buf .entry)) (now (buf .exit)) ⌝ }
 {
     let mut start = Bits(0);
     let mut i = 0;
     while i < n {
         let b = sheet::block(s, i);
-        let f = fields::resolved(b);
+        let f = field_blocks::resolved(b);
         fill_field(buf, b, f, start);
-        start = Bits(start.0 + f.bit.0);
+        start = Bits(start.0 + f.width.0);
         i += 1;
     }
 }
@@ -82,7 +83,7 @@ fn fill_header(s: &[u8], buf: &mut [u8], h: Header) -> Verdict
 {
     let len = h.len;
     if (buf.len() as u64) < len.0 {
-        return Verdict::Refused(Refusal::Room(RoomFault::BufferUnderHeader, s.len() / 512));
+        return Verdict::Refused(Refusal::Room(RoomFault::BufferUnderHeader, sheet::block_count(s)));
     }
     fill(s, buf, h.fields);
     Verdict::Accepted
@@ -92,7 +93,7 @@ fn fill_header(s: &[u8], buf: &mut [u8], h: Header) -> Verdict
 pub fn build_header_template(s: &[u8], buf: &mut [u8]) -> Verdict
     ensures { λ r. ⌜ TemplateBuilt (now (s .entry)) (now (buf .entry)) (now (buf .exit)) r ⌝ }
 {
-    match definition::header(s) {
+    match definition::checked_header(s) {
         NewHeader::Refused(reason) => Verdict::Refused(reason),
         NewHeader::Is(h) => fill_header(s, buf, h),
     }

@@ -1,4 +1,4 @@
-pub mod Laws
+pub mod Emit
 pub mod Decimal
 pub mod Lengths
 pub mod Whole

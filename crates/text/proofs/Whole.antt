@@ -12,7 +12,7 @@ use lib.Seq.{sets, sets-eq, take-all, length-take-le}
 use borrow.Author.Tests.{leb-true, leb-false}
 use Rattle.text.specs.declared.Cursor.{Cursor}
 use Rattle.text.specs.Output.{Output, emit, filledTo}
-use Rattle.text.proofs.Laws.{emit-none, emit-append, kept, emit-go, emit-stop}
+use Rattle.text.proofs.Emit.{emit-none, emit-append, kept, emit-go, emit-stop}
 
 -- ---- a text that fits: what was before it, the text, what was after it
 

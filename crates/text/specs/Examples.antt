@@ -2,8 +2,9 @@
 use mathlib.Core.Path.{_≡_, refl}
 use mathlib.Core.List.{[], _∷_}
 use Rattle.text.specs.declared.Cursor.{Cursor}
-use Rattle.text.specs.Text.{ascii, digits, decimal, hex, spaced, line, textsN, texts}
+use Rattle.text.specs.Text.{digits, decimal, hex, spaced, line, textsN, texts}
 use Rattle.text.specs.Output.{byteTo, emit}
+use Rattle.octets.specs.Ascii.{ascii}
 
 -- ---- text
 

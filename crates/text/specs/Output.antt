@@ -28,7 +28,7 @@ filledTo b (Cursor.At at) = min at (length b)
 filledTo b Cursor.Full = length b
 
 -- r is that number. The other two follow, and are what is asked for where the first r bytes of the buffer are lent on.
-pub record Filled (b : List ℕ) (p : Cursor) (r : ℕ) : Type 0 where
+pub record FilledFront (b : List ℕ) (p : Cursor) (r : ℕ) : Type 0 where
   pub count : r ≡ filledTo b p
   pub within : r ≤ length b
   pub part : r ≡ length (take r b)

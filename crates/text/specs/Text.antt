@@ -1,16 +1,8 @@
 -- Text, as the list of its bytes: numbers in decimal, bytes in hex, words and lines. Assumes nothing.
 use mathlib.Core.Bool.{Bool, true, false, cond}
 use mathlib.Core.List.{List, [], _∷_, _++_}
-use Prim.Native.Char.{code}
 use Prim.Native.Nat.{ℕ, zero, suc, _+_, _-_, _/_, _%_}
-use Prim.Native.String.{String}
-use Prim.Native.String as quoted
 use lib.Dec.{ltb}
-
--- a quoted text: the codes of its characters, which for ASCII are its bytes
-abbrev pub ascii : String → List ℕ
-ascii quoted.[] = []
-ascii (quoted._∷_ c t) = code c ∷ ascii t
 
 -- ---- numbers
 

@@ -5,7 +5,7 @@ ghost use mathlib.Core.List.{[], _∷_};
 ghost use Prim.Native.Nat.{_≤_, _<_};
 ghost use lib.ListN.{length, drop};
 ghost use Rattle.text.specs.Text.{decimal, hexDigit, hex};
-ghost use Rattle.text.specs.Output.{emit, Filled};
+ghost use Rattle.text.specs.Output.{emit, FilledFront};
 
 // Where the next byte goes, or past the buffer's end.
 pub enum Cursor {
@@ -112,7 +112,7 @@ pub fn put_number(out: &mut [u8], to: Cursor, n: u64) -> Cursor
 
 // How many bytes of the buffer a text from its start on has filled.
 pub fn filled(out: &[u8], to: Cursor) -> usize
-    ensures { λ r. ⌜ Filled (now (out .entry)) to r ⌝ }
+    ensures { λ r. ⌜ FilledFront (now (out .entry)) to r ⌝ }
 {
     match to {
         Cursor::At(at) => { if at < out.len() { at } else { out.len() } }

@@ -2,7 +2,7 @@
 use mathlib.Core.Path.{_≡_}
 use Prim.Native.Nat.{ℕ}
 use Rattle.blocks.specs.declared.nodes.Node.{Node}
-use Rattle.tree.specs.Tree.{Table}
+use Rattle.tree.specs.Tree.{NodeTable}
 
 pub data AlgExpr : Type 0 where
   num : ℕ → AlgExpr
@@ -13,7 +13,7 @@ pub data AlgExpr : Type 0 where
   div : AlgExpr → AlgExpr → AlgExpr
 
 -- a node with this tree: the same operator, over children with the trees that it is over
-unfoldable pub Stands : Table → Node → AlgExpr → Type 0
+unfoldable pub Stands : NodeTable → Node → AlgExpr → Type 0
 Stands at p (num n) = p ≡ Node.Num n
 Stands at p ident = p ≡ Node.Ident
 Stands at p (add t u) = (l : ℕ) × (r : ℕ) × (p ≡ Node.Add l r) × Stands at (at l) t × Stands at (at r) u

@@ -5,26 +5,27 @@ use mathlib.Core.List.{List}
 use mathlib.Core.Option.{Option, none, some}
 use Prim.Native.Nat.{ℕ}
 use lib.ListN.{getD}
+use Rattle.answer.specs.Walk.{_orElse_}
 use Rattle.blocks.specs.declared.nodes.Node.{Node}
 use Rattle.expr.specs.declared.UsableAlgExpr.{UsableAlgExpr}
 use Rattle.tree.specs.declared.Usable.{Usable}
 
 -- what stands at each index; past a table of 32 nodes it is the number 0
-abbrev pub Table : Type 0
-Table = ℕ → Node
+abbrev pub NodeTable : Type 0
+NodeTable = ℕ → Node
 
-abbrev pub tableOf : List Node → Table
+abbrev pub tableOf : List Node → NodeTable
 tableOf nodes i = getD nodes i (Node.Num 0)
 
 -- ---- leaves
 
-abbrev pub number : Node → Option ℕ
-number (Node.Num n) = some n
-number Node.Ident = none
-number (Node.Add l r) = none
-number (Node.Sub l r) = none
-number (Node.Mul l r) = none
-number (Node.Div l r) = none
+abbrev pub leafNumber : Node → Option ℕ
+leafNumber (Node.Num n) = some n
+leafNumber Node.Ident = none
+leafNumber (Node.Add l r) = none
+leafNumber (Node.Sub l r) = none
+leafNumber (Node.Mul l r) = none
+leafNumber (Node.Div l r) = none
 
 abbrev pub isX : Node → Bool
 isX (Node.Num n) = false
@@ -38,10 +39,10 @@ isX (Node.Div l r) = false
 
 -- in either order: the number
 abbrev pub besideX : Node → Node → Option ℕ
-besideX p q = cond (isX q) (number p) (cond (isX p) (number q) none)
+besideX p q = cond (isX q) (leafNumber p) (cond (isX p) (leafNumber q) none)
 
 -- an addition form, a number and x added: the number
-abbrev pub addend : Table → Node → Option ℕ
+abbrev pub addend : NodeTable → Node → Option ℕ
 addend at (Node.Num n) = none
 addend at Node.Ident = none
 addend at (Node.Add l r) = besideX (at l) (at r)
@@ -50,7 +51,7 @@ addend at (Node.Mul l r) = none
 addend at (Node.Div l r) = none
 
 -- a product form, a number and x multiplied: the number
-abbrev pub factor : Table → Node → Option ℕ
+abbrev pub factor : NodeTable → Node → Option ℕ
 factor at (Node.Num n) = none
 factor at Node.Ident = none
 factor at (Node.Add l r) = none
@@ -60,36 +61,31 @@ factor at (Node.Div l r) = none
 
 -- ---- forms
 
-infixr 20 _orElse_
-abbrev pub _orElse_ : Option UsableAlgExpr → Option UsableAlgExpr → Option UsableAlgExpr
-some e orElse next = some e
-none orElse next = next
-
 -- a form with one number, or with two, where they are there
-abbrev pub one : (ℕ → UsableAlgExpr) → Option ℕ → Option UsableAlgExpr
-one form (some n) = some (form n)
-one form none = none
+abbrev pub withOne : (ℕ → UsableAlgExpr) → Option ℕ → Option UsableAlgExpr
+withOne form (some n) = some (form n)
+withOne form none = none
 
-abbrev pub two : (ℕ → ℕ → UsableAlgExpr) → Option ℕ → Option ℕ → Option UsableAlgExpr
-two form (some n) q = one (form n) q
-two form none q = none
+abbrev pub withTwo : (ℕ → ℕ → UsableAlgExpr) → Option ℕ → Option ℕ → Option UsableAlgExpr
+withTwo form (some n) q = withOne (form n) q
+withTwo form none q = none
 
 -- a sum: a number and x, or a product form plus a number, in either order
-abbrev pub sum : Table → Node → Node → Option UsableAlgExpr
+abbrev pub sum : NodeTable → Node → Node → Option UsableAlgExpr
 sum at p q =
-    one UsableAlgExpr.SimpleAdd (besideX p q)
-    orElse two UsableAlgExpr.MultAdd (factor at p) (number q)
-    orElse two UsableAlgExpr.MultAdd (factor at q) (number p)
+    withOne UsableAlgExpr.SimpleAdd (besideX p q)
+    orElse withTwo UsableAlgExpr.MultAdd (factor at p) (leafNumber q)
+    orElse withTwo UsableAlgExpr.MultAdd (factor at q) (leafNumber p)
 
 -- a product: a number and x, or an addition form times a number, in either order
-abbrev pub product : Table → Node → Node → Option UsableAlgExpr
+abbrev pub product : NodeTable → Node → Node → Option UsableAlgExpr
 product at p q =
-    one UsableAlgExpr.SimpleMult (besideX p q)
-    orElse two UsableAlgExpr.AddMult (addend at p) (number q)
-    orElse two UsableAlgExpr.AddMult (addend at q) (number p)
+    withOne UsableAlgExpr.SimpleMult (besideX p q)
+    orElse withTwo UsableAlgExpr.AddMult (addend at p) (leafNumber q)
+    orElse withTwo UsableAlgExpr.AddMult (addend at q) (leafNumber p)
 
 -- a tree: x, a sum or a product
-abbrev pub usable : Table → Node → Option UsableAlgExpr
+abbrev pub usable : NodeTable → Node → Option UsableAlgExpr
 usable at (Node.Num n) = none
 usable at Node.Ident = some UsableAlgExpr.IdentOnly
 usable at (Node.Add l r) = sum at (at l) (at r)
@@ -99,6 +95,6 @@ usable at (Node.Div l r) = none
 
 -- ---- what the program's answers say
 
-abbrev pub exprOf : Usable → Option UsableAlgExpr
-exprOf (Usable.Expr e) = some e
-exprOf Usable.None = none
+abbrev pub usableSays : Usable → Option UsableAlgExpr
+usableSays (Usable.Expr e) = some e
+usableSays Usable.None = none

@@ -1,10 +1,11 @@
 // Trees of nodes, and which of them are one of the five forms, as the Rust's `try_take_usable_alg_expr`.
 use blocks::nodes::Node;
+use expr::MaybeNumber;
 use expr::UsableAlgExpr;
-use expr::Value;
 ghost use mathlib.Core.Path.{_≡_};
-ghost use Rattle.expr.specs.Forms.{valueOf};
-ghost use Rattle.tree.specs.Tree.{tableOf, number, isX, besideX, addend as addendOf, factor as factorOf, _orElse_, one, two, sum as sumOf, product as productOf, usable, exprOf};
+ghost use Rattle.expr.specs.Forms.{maybeNumberSays};
+ghost use Rattle.answer.specs.Walk.{_orElse_};
+ghost use Rattle.tree.specs.Tree.{tableOf, leafNumber, isX, besideX, addend as addendOf, factor as factorOf, withOne, withTwo, sum as sumOf, product as productOf, usable, usableSays};
 
 // The expression that a tree is, if it is one.
 pub enum Usable {
@@ -24,16 +25,16 @@ fn node_at(nodes: [Node; 32], i: u8) -> Node
 
 // ---- leaves
 
-fn number_of(n: Node) -> Value
-    ensures { λ r. ⌜ valueOf r ≡ number n ⌝ }
+fn number_of(n: Node) -> MaybeNumber
+    ensures { λ r. ⌜ maybeNumberSays r ≡ leafNumber n ⌝ }
 {
     match n {
-        Node::Num(c) => Value::Is(c),
-        Node::Ident => Value::None,
-        Node::Add(_, _) => Value::None,
-        Node::Sub(_, _) => Value::None,
-        Node::Mul(_, _) => Value::None,
-        Node::Div(_, _) => Value::None,
+        Node::Num(c) => MaybeNumber::Is(c),
+        Node::Ident => MaybeNumber::None,
+        Node::Add(_, _) => MaybeNumber::None,
+        Node::Sub(_, _) => MaybeNumber::None,
+        Node::Mul(_, _) => MaybeNumber::None,
+        Node::Div(_, _) => MaybeNumber::None,
     }
 }
 
@@ -53,8 +54,8 @@ fn is_x(n: Node) -> bool
 // ---- a number and x
 
 // In either order: the number.
-fn beside_x(p: Node, q: Node) -> Value
-    ensures { λ r. ⌜ valueOf r ≡ besideX p q ⌝ }
+fn beside_x(p: Node, q: Node) -> MaybeNumber
+    ensures { λ r. ⌜ maybeNumberSays r ≡ besideX p q ⌝ }
 {
     if is_x(q) {
         return number_of(p);
@@ -62,34 +63,34 @@ fn beside_x(p: Node, q: Node) -> Value
     if is_x(p) {
         return number_of(q);
     }
-    Value::None
+    MaybeNumber::None
 }
 
 // Added: the number.
-fn addend(nodes: [Node; 32], n: Node) -> Value
-    ensures { λ r. ⌜ valueOf r ≡ addendOf (tableOf nodes) n ⌝ }
+fn addend(nodes: [Node; 32], n: Node) -> MaybeNumber
+    ensures { λ r. ⌜ maybeNumberSays r ≡ addendOf (tableOf nodes) n ⌝ }
 {
     match n {
-        Node::Num(_) => Value::None,
-        Node::Ident => Value::None,
+        Node::Num(_) => MaybeNumber::None,
+        Node::Ident => MaybeNumber::None,
         Node::Add(l, r) => beside_x(node_at(nodes, l), node_at(nodes, r)),
-        Node::Sub(_, _) => Value::None,
-        Node::Mul(_, _) => Value::None,
-        Node::Div(_, _) => Value::None,
+        Node::Sub(_, _) => MaybeNumber::None,
+        Node::Mul(_, _) => MaybeNumber::None,
+        Node::Div(_, _) => MaybeNumber::None,
     }
 }
 
 // Multiplied: the number.
-fn factor(nodes: [Node; 32], n: Node) -> Value
-    ensures { λ r. ⌜ valueOf r ≡ factorOf (tableOf nodes) n ⌝ }
+fn factor(nodes: [Node; 32], n: Node) -> MaybeNumber
+    ensures { λ r. ⌜ maybeNumberSays r ≡ factorOf (tableOf nodes) n ⌝ }
 {
     match n {
-        Node::Num(_) => Value::None,
-        Node::Ident => Value::None,
-        Node::Add(_, _) => Value::None,
-        Node::Sub(_, _) => Value::None,
+        Node::Num(_) => MaybeNumber::None,
+        Node::Ident => MaybeNumber::None,
+        Node::Add(_, _) => MaybeNumber::None,
+        Node::Sub(_, _) => MaybeNumber::None,
         Node::Mul(l, r) => beside_x(node_at(nodes, l), node_at(nodes, r)),
-        Node::Div(_, _) => Value::None,
+        Node::Div(_, _) => MaybeNumber::None,
     }
 }
 
@@ -97,7 +98,7 @@ fn factor(nodes: [Node; 32], n: Node) -> Value
 
 impl Usable {
     fn or_else(self, next: Usable) -> Usable
-        ensures { λ r. ⌜ exprOf r ≡ (exprOf self orElse exprOf next) ⌝ }
+        ensures { λ r. ⌜ usableSays r ≡ (usableSays self orElse usableSays next) ⌝ }
     {
         match self {
             Usable::Expr(_) => self,
@@ -106,43 +107,43 @@ impl Usable {
     }
 }
 
-fn simple_add(a: Value) -> Usable
-    ensures { λ r. ⌜ exprOf r ≡ one UsableAlgExpr.SimpleAdd (valueOf a) ⌝ }
+fn simple_add(a: MaybeNumber) -> Usable
+    ensures { λ r. ⌜ usableSays r ≡ withOne UsableAlgExpr.SimpleAdd (maybeNumberSays a) ⌝ }
 {
     match a {
-        Value::Is(n) => Usable::Expr(UsableAlgExpr::SimpleAdd(n)),
-        Value::None => Usable::None,
+        MaybeNumber::Is(n) => Usable::Expr(UsableAlgExpr::SimpleAdd(n)),
+        MaybeNumber::None => Usable::None,
     }
 }
 
-fn simple_mult(m: Value) -> Usable
-    ensures { λ r. ⌜ exprOf r ≡ one UsableAlgExpr.SimpleMult (valueOf m) ⌝ }
+fn simple_mult(m: MaybeNumber) -> Usable
+    ensures { λ r. ⌜ usableSays r ≡ withOne UsableAlgExpr.SimpleMult (maybeNumberSays m) ⌝ }
 {
     match m {
-        Value::Is(n) => Usable::Expr(UsableAlgExpr::SimpleMult(n)),
-        Value::None => Usable::None,
+        MaybeNumber::Is(n) => Usable::Expr(UsableAlgExpr::SimpleMult(n)),
+        MaybeNumber::None => Usable::None,
     }
 }
 
-fn mult_add(m: Value, a: Value) -> Usable
-    ensures { λ r. ⌜ exprOf r ≡ two UsableAlgExpr.MultAdd (valueOf m) (valueOf a) ⌝ }
+fn mult_add(m: MaybeNumber, a: MaybeNumber) -> Usable
+    ensures { λ r. ⌜ usableSays r ≡ withTwo UsableAlgExpr.MultAdd (maybeNumberSays m) (maybeNumberSays a) ⌝ }
 {
-    let Value::Is(m) = m else {
+    let MaybeNumber::Is(m) = m else {
         return Usable::None;
     };
-    let Value::Is(a) = a else {
+    let MaybeNumber::Is(a) = a else {
         return Usable::None;
     };
     Usable::Expr(UsableAlgExpr::MultAdd(m, a))
 }
 
-fn add_mult(a: Value, m: Value) -> Usable
-    ensures { λ r. ⌜ exprOf r ≡ two UsableAlgExpr.AddMult (valueOf a) (valueOf m) ⌝ }
+fn add_mult(a: MaybeNumber, m: MaybeNumber) -> Usable
+    ensures { λ r. ⌜ usableSays r ≡ withTwo UsableAlgExpr.AddMult (maybeNumberSays a) (maybeNumberSays m) ⌝ }
 {
-    let Value::Is(a) = a else {
+    let MaybeNumber::Is(a) = a else {
         return Usable::None;
     };
-    let Value::Is(m) = m else {
+    let MaybeNumber::Is(m) = m else {
         return Usable::None;
     };
     Usable::Expr(UsableAlgExpr::AddMult(a, m))
@@ -150,7 +151,7 @@ fn add_mult(a: Value, m: Value) -> Usable
 
 // A number and x, or a product form plus a number.
 fn sum(nodes: [Node; 32], p: Node, q: Node) -> Usable
-    ensures { λ r. ⌜ exprOf r ≡ sumOf (tableOf nodes) p q ⌝ }
+    ensures { λ r. ⌜ usableSays r ≡ sumOf (tableOf nodes) p q ⌝ }
 {
     let simple = simple_add(beside_x(p, q));
     let left = mult_add(factor(nodes, p), number_of(q));
@@ -160,7 +161,7 @@ fn sum(nodes: [Node; 32], p: Node, q: Node) -> Usable
 
 // A number and x, or an addition form times a number.
 fn product(nodes: [Node; 32], p: Node, q: Node) -> Usable
-    ensures { λ r. ⌜ exprOf r ≡ productOf (tableOf nodes) p q ⌝ }
+    ensures { λ r. ⌜ usableSays r ≡ productOf (tableOf nodes) p q ⌝ }
 {
     let simple = simple_mult(beside_x(p, q));
     let left = add_mult(addend(nodes, p), number_of(q));
@@ -170,7 +171,7 @@ fn product(nodes: [Node; 32], p: Node, q: Node) -> Usable
 
 // A tree, by its root's node: x, a sum or a product.
 fn form_of(nodes: [Node; 32], n: Node) -> Usable
-    ensures { λ r. ⌜ exprOf r ≡ usable (tableOf nodes) n ⌝ }
+    ensures { λ r. ⌜ usableSays r ≡ usable (tableOf nodes) n ⌝ }
 {
     match n {
         Node::Num(_) => Usable::None,
@@ -184,7 +185,7 @@ fn form_of(nodes: [Node; 32], n: Node) -> Usable
 
 // The form that a tree is, by the table of its nodes and the index of its root.
 pub fn try_take_usable_alg_expr(nodes: [Node; 32], root: u8) -> Usable
-    ensures { λ r. ⌜ exprOf r ≡ usable (tableOf nodes) (tableOf nodes root) ⌝ }
+    ensures { λ r. ⌜ usableSays r ≡ usable (tableOf nodes) (tableOf nodes root) ⌝ }
 {
     form_of(nodes, node_at(nodes, root))
 }

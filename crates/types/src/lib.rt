@@ -5,7 +5,7 @@ use octets::part;
 use octets::same_bytes;
 ghost use mathlib.Core.Path.{_≡_};
 ghost use Rattle.octets.specs.Octets.{same};
-ghost use Rattle.types.specs.Types.{codeOf, argCodeOf, sameType, isSlice, typeName, typeNameOf, typeFrom, typeAnswer};
+ghost use Rattle.types.specs.Types.{typeCode, typeOfCode, argCode, sameType, isSlice, typeName, typeNameOf, typeFrom, typeNamedSays};
 
 pub enum BuiltinTypes {
     U8,
@@ -37,7 +37,7 @@ pub enum TypeNamed {
 impl BuiltinTypes {
     // The code on the sheet.
     pub fn code(self) -> u8
-        ensures { λ r. ⌜ r ≡ codeOf self ⌝ }
+        ensures { λ r. ⌜ r ≡ typeCode self ⌝ }
     {
         match self {
             BuiltinTypes::U8 => 1,
@@ -46,6 +46,20 @@ impl BuiltinTypes {
             BuiltinTypes::U64 => 4,
             BuiltinTypes::ByteSlice => 5,
             BuiltinTypes::Bool => 6,
+        }
+    }
+
+    // The type of a code; any number but 1 to 5 stands for bool.
+    pub fn of_code(code: u8) -> BuiltinTypes
+        ensures { λ r. ⌜ r ≡ typeOfCode code ⌝ }
+    {
+        match code {
+            1 => BuiltinTypes::U8,
+            2 => BuiltinTypes::U16,
+            3 => BuiltinTypes::U32,
+            4 => BuiltinTypes::U64,
+            5 => BuiltinTypes::ByteSlice,
+            _ => BuiltinTypes::Bool,
         }
     }
 
@@ -103,7 +117,7 @@ impl BuiltinTypes {
 
     // The type with this name.
     pub fn from(value: &[u8]) -> TypeNamed
-        ensures { λ r. ⌜ typeAnswer r ≡ typeFrom (now (value .entry)) ⌝ }
+        ensures { λ r. ⌜ typeNamedSays r ≡ typeFrom (now (value .entry)) ⌝ }
     {
         if BuiltinTypes::U8.is_named(value) {
             return TypeNamed::Is(BuiltinTypes::U8);
@@ -130,7 +144,7 @@ impl BuiltinTypes {
 impl Arg {
     // The code on the sheet.
     pub fn code(self) -> u8
-        ensures { λ r. ⌜ r ≡ argCodeOf self ⌝ }
+        ensures { λ r. ⌜ r ≡ argCode self ⌝ }
     {
         match self {
             Arg::BuiltinTypes(t) => t.code(),

@@ -225,12 +225,12 @@ mod original {
     }
 
     fn cond(block: &[u8]) -> Entry {
-        let range = |place: &[u8]| CondBounds {
-            start: if place[0] == 0 { Bound::Unbounded } else { Bound::Included(number(place, 2)) },
-            end: match place[1] {
+        let range = |part: &[u8]| CondBounds {
+            start: if part[0] == 0 { Bound::Unbounded } else { Bound::Included(number(part, 2)) },
+            end: match part[1] {
                 0 => Bound::Unbounded,
-                1 => Bound::Included(number(place, 10)),
-                _ => Bound::Excluded(number(place, 10)),
+                1 => Bound::Included(number(part, 10)),
+                _ => Bound::Excluded(number(part, 10)),
             },
         };
         (name(block), block[68..].chunks_exact(18).take(block[66].into()).map(range).collect())
@@ -243,31 +243,31 @@ mod original {
 const BYTES: [u8; 64] = [0x5a; 64];
 
 fn reads(run: &by_hand::Run) -> Times {
-    let place = run.place();
-    assert_eq!(c::read(port::pktfmt_read_number, &place, &BYTES), run.read(&BYTES));
+    let locator = run.locator();
+    assert_eq!(c::read(port::pktfmt_read_number, &locator, &BYTES), run.read(&BYTES));
     compare(
         100,
-        || _ = black_box(c::read(port::pktfmt_read_number, black_box(&place), black_box(&BYTES))),
+        || _ = black_box(c::read(port::pktfmt_read_number, black_box(&locator), black_box(&BYTES))),
         || _ = black_box(black_box(run).read(black_box(&BYTES))),
     )
 }
 
 fn reads_behind_c(run: &by_hand::Run) -> Times {
-    let place = run.place();
-    assert_eq!(c::read(behind_c::read_number, &place, &BYTES), run.read(&BYTES));
+    let locator = run.locator();
+    assert_eq!(c::read(behind_c::read_number, &locator, &BYTES), run.read(&BYTES));
     compare(
         100,
-        || _ = black_box(c::read(port::pktfmt_read_number, black_box(&place), black_box(&BYTES))),
-        || _ = black_box(c::read(behind_c::read_number, black_box(&place), black_box(&BYTES))),
+        || _ = black_box(c::read(port::pktfmt_read_number, black_box(&locator), black_box(&BYTES))),
+        || _ = black_box(c::read(behind_c::read_number, black_box(&locator), black_box(&BYTES))),
     )
 }
 
 fn writes(run: &by_hand::Run) -> Times {
-    let (place, value) = (run.place(), run.value());
+    let (locator, value) = (run.locator(), run.value());
     let (mut left, mut right) = (BYTES, BYTES);
     let times = compare(
         100,
-        || assert!(c::write(port::pktfmt_write_number, black_box(&place), black_box(&mut left), black_box(value))),
+        || assert!(c::write(port::pktfmt_write_number, black_box(&locator), black_box(&mut left), black_box(value))),
         || assert!(black_box(run).write(black_box(&mut right), black_box(value))),
     );
     assert_eq!(left, right);
@@ -275,12 +275,12 @@ fn writes(run: &by_hand::Run) -> Times {
 }
 
 fn writes_behind_c(run: &by_hand::Run) -> Times {
-    let (place, value) = (run.place(), run.value());
+    let (locator, value) = (run.locator(), run.value());
     let (mut left, mut right) = (BYTES, BYTES);
     let times = compare(
         100,
-        || assert!(c::write(port::pktfmt_write_number, black_box(&place), black_box(&mut left), black_box(value))),
-        || assert!(c::write(behind_c::write_number, black_box(&place), black_box(&mut right), black_box(value))),
+        || assert!(c::write(port::pktfmt_write_number, black_box(&locator), black_box(&mut left), black_box(value))),
+        || assert!(c::write(behind_c::write_number, black_box(&locator), black_box(&mut right), black_box(value))),
     );
     assert_eq!(left, right);
     times
@@ -292,35 +292,35 @@ mod c {
     pub type Write = unsafe extern "C" fn(*const u64, usize, *mut u8, usize, u64, *mut u64, usize) -> bool;
 
     #[inline(always)]
-    pub fn read(function: Read, place: &[u64; 6], buf: &[u8]) -> Option<u64> {
+    pub fn read(function: Read, locator: &[u64; 6], buf: &[u8]) -> Option<u64> {
         let mut told = [0; 3];
         // SAFETY: pointers and counts are those of slices.
-        let accepted = unsafe { function(place.as_ptr(), 6, buf.as_ptr(), buf.len(), told.as_mut_ptr(), 3) };
+        let accepted = unsafe { function(locator.as_ptr(), 6, buf.as_ptr(), buf.len(), told.as_mut_ptr(), 3) };
         accepted.then_some(told[0])
     }
 
     #[inline(always)]
-    pub fn write(function: Write, place: &[u64; 6], buf: &mut [u8], value: u64) -> bool {
+    pub fn write(function: Write, locator: &[u64; 6], buf: &mut [u8], value: u64) -> bool {
         let mut told = [0; 3];
         // SAFETY: pointers and counts are those of slices, and the borrows keep them apart.
-        unsafe { function(place.as_ptr(), 6, buf.as_mut_ptr(), buf.len(), value, told.as_mut_ptr(), 3) }
+        unsafe { function(locator.as_ptr(), 6, buf.as_mut_ptr(), buf.len(), value, told.as_mut_ptr(), 3) }
     }
 }
 
-/// The two functions of include/pktfmt.h that take a place, which was worked out before.
+/// The two functions of include/pktfmt.h that take a locator, which was worked out before.
 mod port {
     extern "C" {
         pub fn pktfmt_read_number(
-            place: *const u64,
-            place_len: usize,
+            locator: *const u64,
+            locator_len: usize,
             buf: *const u8,
             buf_len: usize,
             answer: *mut u64,
             answer_len: usize,
         ) -> bool;
         pub fn pktfmt_write_number(
-            place: *const u64,
-            place_len: usize,
+            locator: *const u64,
+            locator_len: usize,
             buf: *mut u8,
             buf_len: usize,
             value: u64,
@@ -330,7 +330,7 @@ mod port {
     }
 }
 
-/// The same two by hand: a place of any six numbers, and which access it was that refused.
+/// The same two by hand: a locator of any six numbers, and which access it was that refused.
 mod behind_c {
     use std::slice::{from_raw_parts, from_raw_parts_mut};
 
@@ -338,28 +338,28 @@ mod behind_c {
 
     #[inline(never)]
     pub unsafe extern "C" fn read_number(
-        place: *const u64,
-        place_len: usize,
+        locator: *const u64,
+        locator_len: usize,
         buf: *const u8,
         buf_len: usize,
         answer: *mut u64,
         answer_len: usize,
     ) -> bool {
         // SAFETY: the caller's pointers and counts are those of slices.
-        let (place, buf, answer) = unsafe {
-            (from_raw_parts(place, place_len), from_raw_parts(buf, buf_len), from_raw_parts_mut(answer, answer_len))
+        let (locator, buf, answer) = unsafe {
+            (from_raw_parts(locator, locator_len), from_raw_parts(buf, buf_len), from_raw_parts_mut(answer, answer_len))
         };
-        let run = Run::of(place);
-        match run.reach(place, buf.len()) {
+        let run = Run::of(locator);
+        match run.reach(locator, buf.len()) {
             Ok(first) => tell(answer, [run.number(buf, first)]),
-            Err(access) => !tell(answer, [10, access, number_at(place, 0)]),
+            Err(access) => !tell(answer, [10, access, number_at(locator, 0)]),
         }
     }
 
     #[inline(never)]
     pub unsafe extern "C" fn write_number(
-        place: *const u64,
-        place_len: usize,
+        locator: *const u64,
+        locator_len: usize,
         buf: *mut u8,
         buf_len: usize,
         value: u64,
@@ -367,16 +367,20 @@ mod behind_c {
         answer_len: usize,
     ) -> bool {
         // SAFETY: the caller's pointers and counts are those of slices, which lie apart.
-        let (place, buf, answer) = unsafe {
-            (from_raw_parts(place, place_len), from_raw_parts_mut(buf, buf_len), from_raw_parts_mut(answer, answer_len))
+        let (locator, buf, answer) = unsafe {
+            (
+                from_raw_parts(locator, locator_len),
+                from_raw_parts_mut(buf, buf_len),
+                from_raw_parts_mut(answer, answer_len),
+            )
         };
-        let run = Run::of(place);
-        match run.reach(place, buf.len()).and_then(|first| run.suit(value).map(|()| first)) {
+        let run = Run::of(locator);
+        match run.reach(locator, buf.len()).and_then(|first| run.suit(value).map(|()| first)) {
             Ok(first) => {
                 run.put(buf, first, value);
                 true
             }
-            Err(access) => !tell(answer, [10, access, number_at(place, 0)]),
+            Err(access) => !tell(answer, [10, access, number_at(locator, 0)]),
         }
     }
 
@@ -395,16 +399,16 @@ mod behind_c {
 
     impl Run {
         #[inline]
-        fn of(place: &[u64]) -> Run {
-            let at = |i| number_at(place, i);
+        fn of(locator: &[u64]) -> Run {
+            let at = |i| number_at(locator, i);
             Run { header: at(1) as usize, start: at(2), width: at(3), default: at(5), fixed: at(4) == 1 }
         }
 
         /// The first byte, or access 1 to 3.
         #[inline]
-        fn reach(&self, place: &[u64], len: usize) -> Result<usize, u64> {
+        fn reach(&self, locator: &[u64], len: usize) -> Result<usize, u64> {
             let (first, touched) = (self.start / 8, self.width / 8 + (self.start % 8 + self.width % 8 + 7) / 8);
-            let bytes = number_at(place, 4) > 1;
+            let bytes = number_at(locator, 4) > 1;
             let shape = if bytes { self.start % 8 == 0 && self.width % 8 == 0 } else { touched <= 8 };
             match () {
                 () if !shape || first + touched > self.header as u64 => Err(1),
@@ -426,7 +430,7 @@ mod behind_c {
     }
 }
 
-/// Reading and writing by hand: a window of 8 bytes, shifts and masks; refused where the place or the value asks for it, as in the port.
+/// Reading and writing by hand: a window of 8 bytes, shifts and masks; refused where the locator or the value asks for it, as in the port.
 mod by_hand {
     pub struct Run {
         pub header: usize,
@@ -448,8 +452,8 @@ mod by_hand {
             (self.start % 8 + self.width + 7) / 8
         }
 
-        /// The numbers of the place in include/pktfmt.h.
-        pub fn place(&self) -> [u64; 6] {
+        /// The numbers of the locator in include/pktfmt.h.
+        pub fn locator(&self) -> [u64; 6] {
             [0, self.header as u64, self.start, self.width, self.fixed.into(), self.default]
         }
 

@@ -66,7 +66,7 @@ fn options(mut words: impl Iterator<Item = String>) -> Option<Options> {
 /// The original's panics are answers, and print nothing; others are printed.
 fn silence_the_original() {
     std::panic::set_hook(Box::new(|panic| {
-        let in_original = panic.location().is_some_and(|place| place.file().contains("target/oracle/ast/"));
+        let in_original = panic.location().is_some_and(|location| location.file().contains("target/oracle/ast/"));
         if !in_original {
             eprintln!("{panic}");
         }

@@ -3,7 +3,7 @@
 use std::panic::catch_unwind;
 
 use pktfmt_checked as port;
-use port::{Form, Held, Place, Slot, SlotName};
+use port::{Form, Held, Locator, Slot, SlotName};
 
 use super::found::Found;
 use crate::original::ast::max_value;
@@ -21,9 +21,9 @@ pub fn compare(definition: &Definition, sheet: &[u8], random: &mut Random, found
     found.same("check", &Ok(header), &port::check(sheet));
     let buffer = template(definition, sheet, found);
     for (index, (_, field, start)) in definition.fields().enumerate() {
-        let place = place_of(index, header.bytes, start.to_global_pos(), field);
-        found.same("field", &Ok(place), &port::place(sheet, index));
-        reads(&place, field, &buffer, found);
+        let locator = locator_of(index, header.bytes, start.to_global_pos(), field);
+        found.same("field", &Ok(locator), &port::locator(sheet, index));
+        reads(&locator, field, &buffer, found);
     }
     for slot in SlotName::ALL {
         length(definition, sheet, slot, random, found);
@@ -40,24 +40,24 @@ fn template(definition: &Definition, sheet: &[u8], found: &mut Found) -> Vec<u8>
     buffer
 }
 
-fn place_of(index: usize, header_bytes: usize, first_bit: u64, field: &Field) -> Place {
+fn locator_of(index: usize, header_bytes: usize, first_bit: u64, field: &Field) -> Locator {
     let held = match field.default {
         DefaultVal::Num(default) if field.default_fix => Held::Fixed { default },
         DefaultVal::Num(default) => Held::Number { default },
         _ => Held::Bytes,
     };
-    Place { index: index as u64, header_bytes: header_bytes as u64, first_bit, bits: field.bit, held }
+    Locator { index: index as u64, header_bytes: header_bytes as u64, first_bit, bits: field.bit, held }
 }
 
 /// A field read in the template is its default.
-fn reads(place: &Place, field: &Field, template: &[u8], found: &mut Found) {
+fn reads(locator: &Locator, field: &Field, template: &[u8], found: &mut Found) {
     match &field.default {
-        DefaultVal::Num(number) => found.same("number read", &Ok(*number), &place.read_number(template)),
-        DefaultVal::Bytes(bytes) => found.same("bytes read", &Ok(&bytes[..]), &place.read_bytes(template)),
+        DefaultVal::Num(number) => found.same("number read", &Ok(*number), &locator.read_number(template)),
+        DefaultVal::Bytes(bytes) => found.same("bytes read", &Ok(&bytes[..]), &locator.read_bytes(template)),
         DefaultVal::Bool(_) => found.told(false, "default", || ("a bool".into(), "none".into())),
     }
     let is_slice = field.repr == BuiltinTypes::ByteSlice;
-    found.same("what is held", &is_slice, &(place.held == Held::Bytes));
+    found.same("what is held", &is_slice, &(locator.held == Held::Bytes));
 }
 
 fn length(definition: &Definition, sheet: &[u8], name: SlotName, random: &mut Random, found: &mut Found) {

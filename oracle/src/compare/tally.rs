@@ -87,8 +87,8 @@ impl fmt::Display for Difference {
         for Unexplained { what, original, port } in &self.answers {
             writeln!(f, "  {what}\n    original {original}\n    port     {port}")?;
         }
-        for (place, block) in self.sheet.chunks(BLOCK).enumerate() {
-            writeln!(f, "  block {place} {}", runs(block).join(" "))?;
+        for (index, block) in self.sheet.chunks(BLOCK).enumerate() {
+            writeln!(f, "  block {index} {}", runs(block).join(" "))?;
         }
         Ok(())
     }

@@ -55,7 +55,7 @@ impl Question {
     }
 }
 
-fn put(place: &mut [u8], numbers: &[u64]) {
-    let places = place.chunks_exact_mut(8);
-    places.zip(numbers).for_each(|(place, number)| place.copy_from_slice(&number.to_be_bytes()));
+fn put(part: &mut [u8], numbers: &[u64]) {
+    let parts = part.chunks_exact_mut(8);
+    parts.zip(numbers).for_each(|(part, number)| part.copy_from_slice(&number.to_be_bytes()));
 }

@@ -6,12 +6,12 @@ use Rattle.abi.proofs.named_field.Tie as tie
 returns : tie.Need-returns
 returns c =
     let n = c .before .before .before in
-    rw (← (n .before .before .block .ensures), ← (n .before .name .ensures), ← (n .field-named .ensures), c .before .k .given .1)
+    rw (← (n .before .before .block .ensures), ← (n .before .name .ensures), ← (n .unchecked-field-named .ensures), c .before .k .given .1)
 
 returns-2 : tie.Need-returns-2
 returns-2 c =
     let n = c .before .before in
-    rw (← (n .before .before .block .ensures), ← (n .before .name .ensures), ← (n .field-named .ensures), c .enum-told .given .1)
+    rw (← (n .before .before .block .ensures), ← (n .before .name .ensures), ← (n .unchecked-field-named .ensures), c .enum-told .given .1)
 
 pub named-field-spec : {M : Type 1} → statement M
 named-field-spec =

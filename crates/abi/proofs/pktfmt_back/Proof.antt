@@ -1,7 +1,7 @@
 -- `pktfmt_back` meets its contract: the value is worked out by the form, if there is one. Assumes nothing.
 use borrow.Author.Needs.{needs}
 use Rattle.expr.specs.Forms.{back}
-use Rattle.abi.proofs.Laws.{found-by, none-found, back-same}
+use Rattle.abi.proofs.Told.{found-by, none-found, back-same}
 use Rattle.abi.proofs.pktfmt_back.Statement.{statement}
 use Rattle.abi.proofs.pktfmt_back.Tie as tie
 

@@ -2,7 +2,7 @@
 use mathlib.Core.Path.{_∙_}
 use borrow.Author.Needs.{needs}
 use Rattle.expr.specs.Forms.{forward}
-use Rattle.abi.proofs.Laws.{found-by, none-found}
+use Rattle.abi.proofs.Told.{found-by, none-found}
 use Rattle.abi.proofs.pktfmt_forward.Statement.{statement}
 use Rattle.abi.proofs.pktfmt_forward.Tie as tie
 

@@ -1,9 +1,9 @@
 -- `pktfmt_read_bytes` meets its contract: the span is told where the place can be read. Assumes nothing.
 use mathlib.Core.Path.{ap, _∙_}
 use borrow.Author.Needs.{needs}
-use Rattle.answer.specs.Paper.{paper}
+use Rattle.answer.specs.Paper.{verdictSays}
 use Rattle.abi.specs.Told.{laid}
-use Rattle.abi.proofs.Laws.{told-given, told-refused, reach-same}
+use Rattle.abi.proofs.Told.{told-given, told-refused, reach-same}
 use Rattle.abi.proofs.pktfmt_read_bytes.Statement.{statement}
 use Rattle.abi.proofs.pktfmt_read_bytes.Tie as tie
 
@@ -14,8 +14,8 @@ returns c =
     let one = two .before .before .before .before .before in
     let ok = one .before .before .before .before .before in
     let reach = ok .before .before in
-    let same = reach .before .place-from .ensures in
-    told-given (reach-same same _ (reach .can-read-bytes .ensures) ∙ ap paper (ok .enum-told .given .1))
+    let same = reach .before .locator-from .ensures in
+    told-given (reach-same same _ (reach .can-read-bytes .ensures) ∙ ap verdictSays (ok .enum-told .given .1))
     (rw (two .tell2 .ensures, two .before .whole-bytes .ensures, one .tell .ensures, one .before .byte-pos .ensures, same))
 
 returns-2 : tie.Need-returns-2
@@ -23,7 +23,7 @@ returns-2 c =
     let told = c .before .before in
     let why = told .before .before .before in
     let reach = why .before .before in
-    told-refused (reach-same (reach .before .place-from .ensures) _ (reach .can-read-bytes .ensures) ∙ ap paper (why .reason .given .1)) (told .tell-refusal .ensures)
+    told-refused (reach-same (reach .before .locator-from .ensures) _ (reach .can-read-bytes .ensures) ∙ ap verdictSays (why .reason .given .1)) (told .tell-refusal .ensures)
 
 pub pktfmt-read-bytes-spec : {M : Type 1} → statement M
 pktfmt-read-bytes-spec =

@@ -1,9 +1,9 @@
 -- `pktfmt_read_number` meets its contract: the number is given or refused. Assumes nothing.
 use mathlib.Core.Path.{ap, _∙_}
 use borrow.Author.Needs.{needs}
-use Rattle.place.specs.Place.{numberIn}
+use Rattle.locator.specs.Locator.{numberAnswerSays}
 use Rattle.abi.specs.Told.{laid}
-use Rattle.abi.proofs.Laws.{told-given, told-refused, read-same}
+use Rattle.abi.proofs.Told.{told-given, told-refused, read-same}
 use Rattle.abi.proofs.pktfmt_read_number.Statement.{statement}
 use Rattle.abi.proofs.pktfmt_read_number.Tie as tie
 
@@ -13,14 +13,14 @@ returns c =
     let told = c .before .before in
     let v = told .before .before .before in
     let read = v .before .before in
-    told-given (read-same (read .before .place-from .ensures) _ (read .read-number .ensures) ∙ ap numberIn (v .v .given .1)) (told .tell .ensures)
+    told-given (read-same (read .before .locator-from .ensures) _ (read .read-number .ensures) ∙ ap numberAnswerSays (v .v .given .1)) (told .tell .ensures)
 
 returns-2 : tie.Need-returns-2
 returns-2 c =
     let told = c .before .before in
     let why = told .before .before .before in
     let read = why .before .before in
-    told-refused (read-same (read .before .place-from .ensures) _ (read .read-number .ensures) ∙ ap numberIn (why .reason .given .1)) (told .tell-refusal .ensures)
+    told-refused (read-same (read .before .locator-from .ensures) _ (read .read-number .ensures) ∙ ap numberAnswerSays (why .reason .given .1)) (told .tell-refusal .ensures)
 
 pub pktfmt-read-number-spec : {M : Type 1} → statement M
 pktfmt-read-number-spec =

@@ -1,6 +1,6 @@
 -- `pktfmt_template` meets its contract: the answer is told, and the buffer is the template's. Assumes nothing.
 use borrow.Author.Needs.{needs}
-use Rattle.abi.proofs.Laws.{template-after}
+use Rattle.abi.proofs.Told.{template-after}
 use Rattle.abi.proofs.pktfmt_template.Statement.{statement}
 use Rattle.abi.proofs.pktfmt_template.Tie as tie
 

@@ -1,6 +1,6 @@
 -- `pktfmt_write_bytes` meets its contract: what the write at the place answers is told. Assumes nothing.
 use borrow.Author.Needs.{needs}
-use Rattle.abi.proofs.Laws.{write-told}
+use Rattle.abi.proofs.Told.{write-told}
 use Rattle.abi.proofs.pktfmt_write_bytes.Statement.{statement}
 use Rattle.abi.proofs.pktfmt_write_bytes.Tie as tie
 
@@ -8,7 +8,7 @@ returns : tie.Need-returns
 returns c =
     let told = c .before .before in
     let wrote = told .before .before .before .before in
-    write-told (wrote .before .before .place-from .ensures) (wrote .write-bytes .ensures) (told .tell-verdict .ensures)
+    write-told (wrote .before .before .locator-from .ensures) (wrote .write-bytes .ensures) (told .tell-verdict .ensures)
 
 pub pktfmt-write-bytes-spec : {M : Type 1} → statement M
 pktfmt-write-bytes-spec =

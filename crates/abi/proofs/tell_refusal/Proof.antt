@@ -2,7 +2,7 @@
 use mathlib.Core.Path.{refl}
 use borrow.Author.Needs.{needs}
 use Rattle.abi.specs.Told.{laid}
-use Rattle.abi.proofs.Laws.{printed-told}
+use Rattle.abi.proofs.Told.{printed-told}
 use Rattle.abi.proofs.tell_refusal.Statement.{statement}
 use Rattle.abi.proofs.tell_refusal.Tie as tie
 
@@ -16,7 +16,7 @@ returns c =
     record {
       given = refl;
       told = printed-told (paper .on-paper .result) (paper .before .before .args .answer .now) (paper .on-paper .ensures)
-          (rw (three .tell3 .ensures, two .tell2 .ensures, one .tell .ensures, one .before .group-number .ensures));
+          (rw (three .tell3 .ensures, two .tell2 .ensures, one .tell .ensures, one .before .number .ensures));
     }
 
 pub tell-refusal-spec : {M : Type 1} → statement M
@@ -25,6 +25,7 @@ tell-refusal-spec =
     (tie.spec
     (λ c κs. search needs)
     (λ c κs. search needs)
+    (λ c. search needs)
     (λ c κs. search needs)
     (λ c. search needs)
     (λ c κs. search needs)

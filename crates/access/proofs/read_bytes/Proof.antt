@@ -1,18 +1,18 @@
--- `read_bytes` meets its contract: the bytes are read at the field's place. Assumes nothing.
+-- `read_bytes` meets its contract: the bytes are read at the field's locator. Assumes nothing.
 use mathlib.Core.Path.{sym, ap, _∙_}
 use borrow.Author.Needs.{needs}
-use Rattle.access.proofs.Laws.{place-given, place-refused, read-refused, read-there}
+use Rattle.access.proofs.BySheet.{locator-given, locator-refused, read-refused, read-there}
 use Rattle.access.proofs.read_bytes.Statement.{statement}
 use Rattle.access.proofs.read_bytes.Tie as tie
-use Rattle.place.specs.Place.{partOf}
+use Rattle.locator.specs.Locator.{partOf}
 
 returns : tie.Need-returns
 returns c =
     let p = c .before .before in
-    c .read-bytes .ensures ∙ ap partOf (read-there _ _ (place-given _ _ (p .before .before .place .ensures) (p .p .given .1)) _ _)
+    c .read-bytes .ensures ∙ ap partOf (read-there _ _ (locator-given _ _ (p .before .before .locate .ensures) (p .p .given .1)) _ _)
 
 returns-2 : tie.Need-returns-2
-returns-2 c = sym (ap partOf (read-refused _ _ (place-refused _ _ (c .before .before .before .place .ensures) (c .before .enum-told .given .1)) _ _))
+returns-2 c = sym (ap partOf (read-refused _ _ (locator-refused _ _ (c .before .before .before .locate .ensures) (c .before .enum-told .given .1)) _ _))
 
 pub read-bytes-spec : {M : Type 1} → statement M
 read-bytes-spec =

@@ -1,16 +1,16 @@
--- `write_bytes` meets its contract: the bytes go to the field's place. Assumes nothing.
+-- `write_bytes` meets its contract: the bytes go to the field's locator. Assumes nothing.
 use borrow.Author.Needs.{needs}
-use Rattle.access.proofs.Laws.{place-given, place-refused, not-written, written-there}
+use Rattle.access.proofs.BySheet.{locator-given, locator-refused, not-written, written-there}
 use Rattle.access.proofs.write_bytes.Statement.{statement}
 use Rattle.access.proofs.write_bytes.Tie as tie
 
 returns : tie.Need-returns
 returns c =
     let p = c .before .before .before .before .before in
-    written-there _ _ (place-given _ _ (p .before .before .place .ensures) (p .p .given .1)) (c .before .before .write-bytes .ensures)
+    written-there _ _ (locator-given _ _ (p .before .before .locate .ensures) (p .p .given .1)) (c .before .before .write-bytes .ensures)
 
 returns-2 : tie.Need-returns-2
-returns-2 c = not-written _ _ _ _ _ (place-refused _ _ (c .before .before .before .place .ensures) (c .before .reason .given .1))
+returns-2 c = not-written _ _ _ _ _ (locator-refused _ _ (c .before .before .before .locate .ensures) (c .before .reason .given .1))
 
 pub write-bytes-spec : {M : Type 1} → statement M
 write-bytes-spec =

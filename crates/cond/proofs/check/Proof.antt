@@ -4,7 +4,7 @@ use Prim.Native.Nat.{_-_, _≤_}
 use native.Mathlib.Omega.{arith}
 use borrow.Author.Needs.{needs}
 use Rattle.answer.specs.Paper.{accepted, first}
-use Rattle.answer.proofs.Laws.{stop, first-none, first-more, first-stops, passed}
+use Rattle.answer.proofs.Chains.{stop, first-none, first-more, first-stops, passed}
 use Rattle.sheet.specs.Blocks.{blockCount}
 use Rattle.cond.specs.Step.{entryFault, condCheck}
 use Rattle.cond.proofs.check.Statement.{statement}
@@ -37,9 +37,9 @@ unfolding condCheck
 returns-2 c =
     let counted = c .before .before in
     let k = counted .before .before in
-    let n = blockCount (k .before .before .args .s .now) in
+    let n = blockCount (k .before .before .before .args .s .now) in
     let all : k .loop .i ≡ n = omega arith in
-    rw (rw all at (k .loop .inv .1), c .refuse .ensures, counted .block-counts .ensures)
+    rw (rw all at (k .loop .inv .1), c .refuse .ensures, counted .block-counts .ensures, k .before .block-count .ensures)
 
 pub check-spec : {M : Type 1} → statement M
 check-spec =
@@ -47,6 +47,7 @@ check-spec =
     (tie.spec
     Inv-loop
     μ-loop
+    (λ c κs. search needs)
     loop-holds
     (λ c κs. search needs)
     (λ c. search needs)

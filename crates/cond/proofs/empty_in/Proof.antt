@@ -2,9 +2,9 @@
 use mathlib.Core.Path.{ap, _∙_}
 use borrow.Author.Needs.{needs}
 use Rattle.bounds.specs.Bounds.{isEmpty}
-use Rattle.bounds.proofs.Laws.{clipped-empty}
+use Rattle.bounds.proofs.InNumbers.{clipped-empty}
 use Rattle.cond.specs.Ranges.{rangeIn}
-use Rattle.cond.proofs.Laws.{never-excluded}
+use Rattle.cond.proofs.NeverExcluded.{never-excluded}
 use Rattle.cond.proofs.empty_in.Statement.{statement}
 use Rattle.cond.proofs.empty_in.Tie as tie
 

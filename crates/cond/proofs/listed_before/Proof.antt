@@ -7,14 +7,13 @@ use Prim.Native.Nat.{ℕ, _-_, _≤_}
 use native.Mathlib.Omega.{arith}
 use borrow.Author.Needs.{needs}
 use Rattle.octets.specs.Octets.{same}
-use Rattle.sheet.specs.Walk.{firstWhere}
 use Rattle.sheet.specs.Blocks.{blockAt}
-use Rattle.sheet.specs.Sheet.{isSome}
-use Rattle.sheet.proofs.Walk.{where-none, where-more, where-at}
 use Rattle.header.specs.Names.{nameAt}
 use Rattle.cond.specs.Step.{isEntry}
 use Rattle.cond.proofs.listed_before.Statement.{statement}
 use Rattle.cond.proofs.listed_before.Tie as tie
+use Rattle.answer.specs.Walk.{firstWhere, isSome}
+use Rattle.answer.proofs.Walk.{where-none, where-more, where-at}
 
 -- block j is an entry that lists the field of block i
 abbrev listed : List ℕ → ℕ → ℕ → Bool

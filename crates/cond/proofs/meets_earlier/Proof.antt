@@ -6,13 +6,12 @@ use mathlib.Core.Option.{none}
 use Prim.Native.Nat.{ℕ, _-_, _≤_}
 use native.Mathlib.Omega.{arith}
 use borrow.Author.Needs.{needs}
-use Rattle.sheet.specs.Walk.{firstWhere}
-use Rattle.sheet.specs.Sheet.{isSome}
-use Rattle.sheet.proofs.Walk.{where-none, where-more, where-at}
 use Rattle.bounds.specs.Bounds.{meets}
 use Rattle.cond.specs.Ranges.{clippedIn}
 use Rattle.cond.proofs.meets_earlier.Statement.{statement}
 use Rattle.cond.proofs.meets_earlier.Tie as tie
+use Rattle.answer.specs.Walk.{firstWhere, isSome}
+use Rattle.answer.proofs.Walk.{where-none, where-more, where-at}
 
 -- ranges j and k meet
 abbrev meet : List ℕ → ℕ → ℕ → ℕ → Bool

@@ -6,13 +6,7 @@ use Rattle.cond.proofs.range_fault.Tie as tie
 returns : tie.Need-returns
 returns c =
     let empty = c .before .before .before in
-    rw (
-      c .and-then .ensures,
-      c .before .refuse2 .ensures,
-      c .before .before .meets-earlier .ensures,
-      empty .refuse .ensures,
-      empty .before .empty-in .ensures,
-    )
+    rw (c .and-then .ensures, c .before .refuse2 .ensures, c .before .before .meets-earlier .ensures, empty .refuse .ensures, empty .before .empty-in .ensures)
 
 pub range-fault-spec : {M : Type 1} → statement M
 range-fault-spec =

@@ -6,30 +6,8 @@ use Rattle.cond.proofs.range_in.Tie as tie
 
 returns : tie.Need-returns
 unfolding rangeIn
-returns c =
-    let start = c .before .before .before in
-    rw (
-      c .end-of .ensures,
-      c .before .be642 .ensures,
-      c .before .before .byte-at2 .ensures,
-      start .start-of .ensures,
-      start .before .be64 .ensures,
-      start .before .before .byte-at .ensures,
-    )
+returns c = rw (c .end-of .ensures, c .before .start-of .ensures, c .before .before .stated-range .ensures)
 
 pub range-in-spec : {M : Type 1} → statement M
 range-in-spec =
-    tie.close
-    (tie.spec
-    (λ c. search needs)
-    (λ c. search needs)
-    (λ c κs. search needs)
-    (λ c. search needs)
-    (λ c κs. search needs)
-    (λ c κs. search needs)
-    (λ c. search needs)
-    (λ c κs. search needs)
-    (λ c. search needs)
-    (λ c κs. search needs)
-    (λ c κs. search needs)
-    returns)
+    tie.close (tie.spec (λ c κs. search needs) (λ c κs. search needs) (λ c κs. search needs) returns)

@@ -1,6 +1,6 @@
 -- `check_fields` meets its contract: step 2 comes after step 1 has passed. Assumes nothing.
 use borrow.Author.Needs.{needs}
-use Rattle.answer.proofs.Laws.{go, stop, passed}
+use Rattle.answer.proofs.Chains.{go, stop, passed}
 use Rattle.definition.proofs.check_fields.Statement.{statement}
 use Rattle.definition.proofs.check_fields.Tie as tie
 

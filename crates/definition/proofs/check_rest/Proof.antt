@@ -1,15 +1,15 @@
 -- `check_rest` meets its contract: a refusal of step 4 or 5 stands, and past them the header is given. Assumes nothing.
 use mathlib.Core.Path.{_≡_}
 use borrow.Author.Needs.{needs}
-use Rattle.answer.specs.Paper.{gives, paper, _andThen_}
-use Rattle.answer.proofs.Laws.{andThen-assoc, passed}
+use Rattle.answer.specs.Paper.{gives, verdictSays, _andThen_}
+use Rattle.answer.proofs.Chains.{andThen-assoc, passed}
 use Rattle.length.specs.Step.{lengthCheck}
 use Rattle.cond.specs.Step.{condCheck}
 use Rattle.definition.proofs.check_rest.Statement.{statement}
 use Rattle.definition.proofs.check_rest.Tie as tie
 
 -- what was said of steps 4 and 5
-two-steps : (c : tie.After-and-then) → paper (c .and-then .result)
+two-steps : (c : tie.After-and-then) → verdictSays (c .and-then .result)
     ≡ (lengthCheck (c .before .before .before .before .args .s .now) (c .before .before .before .before .args .h .len .0) andThen condCheck (c .before .before .before .before .args .s .now))
 two-steps c = rw (c .and-then .ensures, c .before .check2 .ensures, c .before .before .check .ensures)
 

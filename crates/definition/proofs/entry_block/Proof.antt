@@ -5,7 +5,7 @@ use borrow.Author.Tests.{lt-ltb, le-ltb}
 use borrow.Author.Needs.{needs}
 use Rattle.sheet.specs.Blocks.{blockCount}
 use Rattle.sheet.proofs.Blocks.{counts-le}
-use Rattle.definition.specs.Says.{entryBlock}
+use Rattle.definition.specs.Unchecked.{entryBlock}
 use Rattle.definition.proofs.entry_block.Statement.{statement}
 use Rattle.definition.proofs.entry_block.Tie as tie
 

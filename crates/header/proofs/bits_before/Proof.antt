@@ -3,8 +3,8 @@ use mathlib.Core.Path.{_≡_, sym, ap, _∙_}
 use Prim.Native.Nat.{_-_, _*_, _^_, _≤_}
 use native.Mathlib.Omega.{arith}
 use borrow.Author.Needs.{needs}
-use Rattle.layout.proofs.Listed.{position-none, position-more}
-use Rattle.header.specs.Places.{headerField, startAt}
+use Rattle.layout.proofs.Indexed.{position-none, position-more}
+use Rattle.header.specs.Starts.{headerFieldAt, startAt}
 use Rattle.header.proofs.bits_before.Statement.{statement}
 use Rattle.header.proofs.bits_before.Tie as tie
 
@@ -14,16 +14,13 @@ Inv-loop s n sum₀ i₀ sum i = (i ≤ n) × (sum ≡ startAt s i) × (sum ≤ 
 abbrev μ-loop : tie.MeasureT-loop
 μ-loop s n sum₀ i₀ sum i = n - i
 
-loop-holds : tie.Need-loop-holds Inv-loop μ-loop
-loop-holds c = (omega arith, omega (arith, position-none (headerField (c .before .args .s .now))), omega arith)
-
 loop-again : tie.Need-loop-again Inv-loop μ-loop
 loop-again c =
     let k = c .before .before .before .before in
     let s = k .before .before .args .s .now in
     let bits = c .before .bits-in .ensures in (
       omega arith,
-      rw (k .loop .inv .1, bits .0, c .before .before .block .ensures) (sym (position-more (headerField s) (k .loop .i))),
+      rw (k .loop .inv .1, bits .0, c .before .before .block .ensures) (sym (position-more (headerFieldAt s) (k .loop .i))),
       omega (arith, bits .1),
     )
 
@@ -39,7 +36,7 @@ bits-before-spec =
     (tie.spec
     Inv-loop
     μ-loop
-    loop-holds
+    (λ c. (omega arith, omega (arith, position-none (headerFieldAt (c .before .args .s .now))), omega arith))
     (λ c κs. search needs)
     (λ c κs. search needs)
     (λ c. omega (arith, c .before .bits-in .ensures .1))

@@ -3,8 +3,5 @@ use borrow.Author.Needs.{needs}
 use Rattle.header.proofs.has_name.Statement.{statement}
 use Rattle.header.proofs.has_name.Tie as tie
 
-returns : tie.Need-returns
-returns c = rw (c .same-bytes .ensures, c .before .name .ensures)
-
 pub has-name-spec : {M : Type 1} → statement M
-has-name-spec = tie.close (tie.spec (λ c κs. search needs) (λ c κs. search needs) returns)
+has-name-spec = tie.close (tie.spec (λ c κs. search needs) (λ c κs. search needs) (λ c. rw (c .same-bytes .ensures, c .before .name .ensures)))

@@ -1,12 +1,8 @@
 -- `key` meets its contract: it is the definition. Assumes nothing.
 use borrow.Author.Needs.{needs}
-use Rattle.header.specs.Names.{keyOf}
 use Rattle.header.proofs.key.Statement.{statement}
 use Rattle.header.proofs.key.Tie as tie
-
-returns : tie.Need-returns
-unfolding keyOf
-returns c = rw (c .last-two .ensures, c .before .byte-at .ensures)
+use Rattle.header.specs.Working.{keyOf}
 
 pub key-spec : {M : Type 1} → statement M
 key-spec =
@@ -22,4 +18,4 @@ key-spec =
     (λ c. search needs)
     (λ c. search needs)
     (λ c. search needs)
-    returns)
+    (λ c. unfold keyOf in rw (c .last-two .ensures, c .before .byte-at .ensures)))

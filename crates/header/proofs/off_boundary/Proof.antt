@@ -3,8 +3,5 @@ use borrow.Author.Needs.{needs}
 use Rattle.header.proofs.off_boundary.Statement.{statement}
 use Rattle.header.proofs.off_boundary.Tie as tie
 
-returns : tie.Need-returns
-returns c = rw (c .bit-pos .ensures, c .before .is-slice .ensures)
-
 pub off-boundary-spec : {M : Type 1} → statement M
-off-boundary-spec = tie.close (tie.spec (λ c κs. search needs) (λ c κs. search needs) returns)
+off-boundary-spec = tie.close (tie.spec (λ c κs. search needs) (λ c κs. search needs) (λ c. rw (c .bit-pos .ensures, c .before .is-slice .ensures)))

@@ -3,8 +3,5 @@ use borrow.Author.Needs.{needs}
 use Rattle.header.proofs.over_eight.Statement.{statement}
 use Rattle.header.proofs.over_eight.Tie as tie
 
-returns : tie.Need-returns
-returns c = rw (c .before .touched .ensures)
-
 pub over-eight-spec : {M : Type 1} → statement M
-over-eight-spec = tie.close (tie.spec (λ c κs. search needs) returns)
+over-eight-spec = tie.close (tie.spec (λ c κs. search needs) (λ c. rw (c .before .touched .ensures)))

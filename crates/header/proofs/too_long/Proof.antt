@@ -3,8 +3,5 @@ use borrow.Author.Needs.{needs}
 use Rattle.header.proofs.too_long.Statement.{statement}
 use Rattle.header.proofs.too_long.Tie as tie
 
-returns : tie.Need-returns
-returns c = rw (c .over-max .ensures, c .before .whole-bytes .ensures)
-
 pub too-long-spec : {M : Type 1} → statement M
-too-long-spec = tie.close (tie.spec (λ c κs. search needs) (λ c κs. search needs) returns)
+too-long-spec = tie.close (tie.spec (λ c κs. search needs) (λ c κs. search needs) (λ c. rw (c .over-max .ensures, c .before .whole-bytes .ensures)))

@@ -7,7 +7,7 @@ returns : tie.Need-returns
 returns c = rw (c .enum-told .given .1)
 
 returns-2 : tie.Need-returns-2
-returns-2 c = rw (c .and-then .ensures, c .before .field-fault .ensures, c .before .before .length-fault .ensures, c .before .before .before .of-default .ensures, c .before .before .before .before .largest .ensures, c .before .before .before .before .before .before .named .given .1)
+returns-2 c = let worked = c .before .before .before in rw (c .and-then .ensures, c .before .field-fault .ensures, c .before .before .length-fault .ensures, worked .of-default .ensures, worked .before .largest .ensures, worked .before .before .before .named .given .1)
 
 pub check-expr-spec : {M : Type 1} → statement M
 check-expr-spec =

@@ -1,22 +1,16 @@
 -- `field_fault` meets its contract: the definition's refusals, in its order. Assumes nothing.
 use borrow.Author.Needs.{needs}
-use Rattle.length.specs.Step.{fieldFault}
+use Rattle.length.specs.Step.{lengthFieldFault}
 use Rattle.length.proofs.field_fault.Statement.{statement}
 use Rattle.length.proofs.field_fault.Tie as tie
 
 returns : tie.Need-returns
-unfolding fieldFault
+unfolding lengthFieldFault
 returns c =
-    rw (
-      c .and-then3 .ensures,
-      c .before .and-then2 .ensures,
-      c .before .before .and-then .ensures,
-      c .before .before .before .refuse4 .ensures,
-      c .before .before .before .before .before .refuse3 .ensures,
-      c .before .before .before .before .before .before .bad-arg .ensures,
-      c .before .before .before .before .before .before .before .refuse2 .ensures,
-      c .before .before .before .before .before .before .before .before .refuse .ensures,
-    )
+    let third = c .before .before .before .before .before in
+    rw (c .and-then3 .ensures, c .before .and-then2 .ensures, c .before .before .and-then .ensures)
+    (rw (c .before .before .before .refuse4 .ensures, third .refuse3 .ensures, third .before .bad-arg .ensures)
+    (rw (third .before .before .refuse2 .ensures, third .before .before .before .refuse .ensures)))
 
 pub field-fault-spec : {M : Type 1} → statement M
 field-fault-spec =

@@ -1,5 +1,5 @@
 -- `put_field` meets its contract: the line's words, one after another. Assumes nothing.
-use Rattle.text.proofs.Laws.{word, no-words, ended, kept}
+use Rattle.text.proofs.Emit.{word, no-words, ended, kept}
 use Rattle.lines.specs.Lines.{fieldLine}
 use borrow.Author.Needs.{needs}
 use Rattle.lines.proofs.put_field.Statement.{statement}

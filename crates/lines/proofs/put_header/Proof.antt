@@ -1,5 +1,5 @@
 -- `put_header` meets its contract: the line's words, one after another. Assumes nothing.
-use Rattle.text.proofs.Laws.{word, no-words, ended}
+use Rattle.text.proofs.Emit.{word, no-words, ended}
 use Rattle.lines.specs.Lines.{headerLine}
 use borrow.Author.Needs.{needs}
 use Rattle.lines.proofs.put_header.Statement.{statement}

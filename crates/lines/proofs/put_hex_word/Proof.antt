@@ -1,5 +1,5 @@
 -- `put_hex_word` meets its contract. Assumes nothing.
-use Rattle.lines.proofs.Laws.{no-hex, some-hex}
+use Rattle.lines.proofs.Words.{no-hex, some-hex}
 use borrow.Author.Needs.{needs}
 use Rattle.lines.proofs.put_hex_word.Statement.{statement}
 use Rattle.lines.proofs.put_hex_word.Tie as tie

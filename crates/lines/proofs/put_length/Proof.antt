@@ -1,6 +1,6 @@
 -- `put_length` meets its contract: by what the slot holds. Assumes nothing.
 use mathlib.Core.Path.{sym}
-use Rattle.text.proofs.Laws.{emit-none}
+use Rattle.text.proofs.Emit.{emit-none}
 use borrow.Author.Needs.{needs}
 use Rattle.lines.proofs.put_length.Statement.{statement}
 use Rattle.lines.proofs.put_length.Tie as tie

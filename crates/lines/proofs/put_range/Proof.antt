@@ -1,5 +1,5 @@
 -- `put_range` meets its contract. Assumes nothing.
-use Rattle.text.proofs.Laws.{word, no-words}
+use Rattle.text.proofs.Emit.{word, no-words}
 use borrow.Author.Needs.{needs}
 use Rattle.lines.proofs.put_range.Statement.{statement}
 use Rattle.lines.proofs.put_range.Tie as tie

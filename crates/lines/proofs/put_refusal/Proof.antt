@@ -1,11 +1,11 @@
 -- `put_refusal` meets its contract: the line's words, one after another; what is on paper is what the refusal says. Assumes nothing.
 use mathlib.Core.Path.{ap, _∙_}
-use Rattle.text.proofs.Laws.{word, no-words, ended}
+use Rattle.text.proofs.Emit.{word, no-words, ended}
 use Rattle.text.specs.Output.{emit}
 use Rattle.answer.specs.declared.OnPaper.{OnPaper}
-use Rattle.answer.proofs.OneToOne.{printed-one}
+use Rattle.answer.proofs.OneToOne.{on-paper-one}
 use Rattle.lines.specs.Lines.{refusalLine}
-use Rattle.lines.proofs.Laws.{short}
+use Rattle.lines.proofs.Words.{short}
 use borrow.Author.Needs.{needs}
 use Rattle.lines.proofs.put_refusal.Statement.{statement}
 use Rattle.lines.proofs.put_refusal.Tie as tie
@@ -19,7 +19,7 @@ returns c =
     let c1 = c2 .before .before .before .before .before in
     let told = c1 .before .before .before .before .before in
     let a = told .before .before .args in
-    let is = printed-one (told .on-paper .result) _ (told .on-paper .ensures) in
+    let is = on-paper-one (told .on-paper .result) _ (told .on-paper .ensures) in
     ended _ _ _ (c1 .before .before .put-bytes .ensures)
     (word _ _ _ (short _ _ (c2 .before .before .before .group-word .ensures) (c2 .before .before .put-short .ensures))
     (word _ _ _ (c3 .before .before .put-number .ensures)

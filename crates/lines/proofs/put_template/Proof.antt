@@ -1,5 +1,5 @@
 -- `put_template` meets its contract. Assumes nothing.
-use Rattle.text.proofs.Laws.{ended}
+use Rattle.text.proofs.Emit.{ended}
 use Rattle.lines.specs.Lines.{templateLine}
 use borrow.Author.Needs.{needs}
 use Rattle.lines.proofs.put_template.Statement.{statement}

@@ -1,7 +1,7 @@
 -- `put_undefined` meets its contract: the line's words, one after another. Assumes nothing.
-use Rattle.text.proofs.Laws.{word, no-words, ended}
+use Rattle.text.proofs.Emit.{word, no-words, ended}
 use Rattle.lines.specs.Lines.{undefinedLine}
-use Rattle.lines.proofs.Laws.{short}
+use Rattle.lines.proofs.Words.{short}
 use borrow.Author.Needs.{needs}
 use Rattle.lines.proofs.put_undefined.Statement.{statement}
 use Rattle.lines.proofs.put_undefined.Tie as tie

@@ -1,7 +1,7 @@
 -- `put_worked` meets its contract: the line's words, one after another. Assumes nothing.
-use Rattle.text.proofs.Laws.{word, ended}
+use Rattle.text.proofs.Emit.{word, ended}
 use Rattle.lines.specs.Lines.{workedLine}
-use Rattle.lines.proofs.Laws.{short}
+use Rattle.lines.proofs.Words.{short}
 use borrow.Author.Needs.{needs}
 use Rattle.lines.proofs.put_worked.Statement.{statement}
 use Rattle.lines.proofs.put_worked.Tie as tie

@@ -1,6 +1,6 @@
 -- `read_rest` comes to an end: the buffer keeps its length, and the number of turns is bounded. Assumes nothing.
 use mathlib.Core.Path.{_≡_, sym}
-use Prim.Native.Nat.{_-_}
+use Prim.Native.Nat.{_-_, _^_}
 use native.Mathlib.Omega.{arith}
 use lib.ListN.{length}
 use borrow.Author.Needs.{needs}
@@ -12,7 +12,7 @@ abbrev Inv-loop : tie.InvT-loop
 Inv-loop rest₀ counter₀ rest counter = length rest ≡ 65536
 
 abbrev μ-loop : tie.MeasureT-loop
-μ-loop rest₀ counter₀ rest counter = 18446744073709551615 - counter
+μ-loop rest₀ counter₀ rest counter = 2 ^ 64 - 1 - counter
 
 loop-holds : tie.Need-loop-holds Inv-loop μ-loop
 loop-holds c = sym (c .large-buffer .ensures)

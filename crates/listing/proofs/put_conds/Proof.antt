@@ -4,7 +4,7 @@ use Prim.Native.Nat.{_+_, _-_}
 use native.Mathlib.Omega.{arith}
 use Rattle.text.specs.Text.{texts}
 use Rattle.text.specs.Output.{emit}
-use Rattle.text.proofs.Laws.{kept, texts-none, texts-go}
+use Rattle.text.proofs.Emit.{kept, texts-none, texts-go}
 use Rattle.listing.specs.Listing.{condText}
 use borrow.Author.Needs.{needs}
 use Rattle.listing.proofs.put_conds.Statement.{statement}

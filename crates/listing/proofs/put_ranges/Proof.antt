@@ -4,9 +4,9 @@ use Prim.Native.Nat.{ℕ, _+_, _-_}
 use native.Mathlib.Omega.{arith}
 use Rattle.text.specs.Text.{spaced}
 use Rattle.text.specs.Output.{emit}
-use Rattle.text.proofs.Laws.{kept}
+use Rattle.text.proofs.Emit.{kept}
 use Rattle.listing.specs.Listing.{rangesFrom}
-use Rattle.listing.proofs.Laws.{ranges-none, ranges-go}
+use Rattle.listing.proofs.Wrote.{ranges-none, ranges-go}
 use borrow.Author.Needs.{needs}
 use Rattle.listing.proofs.put_ranges.Statement.{statement}
 use Rattle.listing.proofs.put_ranges.Tie as tie

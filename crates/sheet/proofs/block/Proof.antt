@@ -8,6 +8,7 @@ use lib.ListN.{length, take, drop}
 use lib.Seq.{slice}
 use borrow.Author.Tests.{lt-ltb, le-ltb}
 use borrow.Author.Needs.{needs}
+use Rattle.blocks.specs.Layout.{blockSize}
 use Rattle.sheet.specs.Blocks.{blockAt}
 use Rattle.sheet.proofs.block.Statement.{statement}
 use Rattle.sheet.proofs.block.Tie as tie
@@ -22,12 +23,8 @@ returns : tie.Need-returns
 unfolding blockAt
 returns c =
     let a = c .before .before .args in
-    let there : a .i < length (a .s .now) / 512 = omega arith in
-    rw (lt-ltb _ _ there, add-sub-cancel-left) (part (512 * a .i) 512 (a .s .now))
-
-returns-2 : tie.Need-returns-2
-unfolding blockAt
-returns-2 c = rw (le-ltb _ _ (c .before .if1 .left))
+    let there : a .i < length (a .s .now) / blockSize = omega arith in
+    rw (lt-ltb _ _ there, add-sub-cancel-left) (part (blockSize * a .i) blockSize (a .s .now))
 
 pub block-spec : {M : Type 1} → statement M
 block-spec =
@@ -41,4 +38,4 @@ block-spec =
     (λ c. search needs)
     (λ c. search needs)
     returns
-    returns-2)
+    (λ c. unfold blockAt in rw (le-ltb _ _ (c .before .if1 .left))))

@@ -15,24 +15,14 @@ Inv-loop s all₀ i₀ all i = (i ≤ blockCount s) × (all ≡ countsOf s i)
 abbrev μ-loop : tie.MeasureT-loop
 μ-loop s all₀ i₀ all i = blockCount s - i
 
-loop-holds : tie.Need-loop-holds Inv-loop μ-loop
-loop-holds c = (omega arith, sym (counts-none _))
-
 with-requires : tie.Need-with-requires Inv-loop μ-loop
 with-requires c κs =
-    let k = c .before .before .before in
-    let few = counts-le _ (k .loop .i) (k .loop .inv .1) in
-    (omega (arith, few .0), omega (arith, few .1), omega (arith, few .2))
+    let k = c .before .before .before in omega (arith, counts-le _ (k .loop .i) (k .loop .inv .1))
 
 loop-again : tie.Need-loop-again Inv-loop μ-loop
 loop-again c =
     let k = c .before .before .before .before in
-    (omega arith, c .with .ensures ∙ counts-more _ (k .loop .i) (k .loop .inv .1) (c .before .byte-at .ensures ∙ ap kindOf (c .before .before .block .ensures)))
-
-returns : tie.Need-returns Inv-loop μ-loop
-returns c =
-    let s = c .before .before .before .args .s .now in
-    c .before .loop .inv .1 ∙ ap (countsOf s) (omega arith)
+    (omega arith, c .with .ensures ∙ counts-more _ (k .loop .i) (k .loop .inv .1) (c .before .kind .ensures ∙ ap kindOf (c .before .before .block .ensures)))
 
 pub block-counts-spec : {M : Type 1} → statement M
 block-counts-spec =
@@ -40,11 +30,11 @@ block-counts-spec =
     (tie.spec
     Inv-loop
     μ-loop
-    loop-holds
+    (λ c. (omega arith, sym (counts-none _)))
     (λ c κs. search needs)
     (λ c κs. search needs)
     with-requires
     (λ c. omega arith)
     (λ c. omega arith)
     loop-again
-    returns)
+    (λ c. c .before .loop .inv .1 ∙ ap (countsOf _) (omega arith)))

@@ -3,8 +3,5 @@ use borrow.Author.Needs.{needs}
 use Rattle.sheet.proofs.gives_slot.Statement.{statement}
 use Rattle.sheet.proofs.gives_slot.Tie as tie
 
-returns : tie.Need-returns
-returns c = rw (c .byte-at2 .ensures, c .before .byte-at .ensures)
-
 pub gives-slot-spec : {M : Type 1} → statement M
-gives-slot-spec = tie.close (tie.spec (λ c κs. search needs) (λ c κs. search needs) returns)
+gives-slot-spec = tie.close (tie.spec (λ c κs. search needs) (λ c κs. search needs) (λ c. rw (c .stated-slot .ensures, c .before .kind .ensures)))

@@ -4,7 +4,7 @@ use Rattle.slots.proofs.is_tree.Statement.{statement}
 use Rattle.slots.proofs.is_tree.Tie as tie
 
 returns : tie.Need-returns
-returns c = rw (c .byte-at2 .ensures, c .before .byte-at .ensures)
+returns c = rw (c .stated-form .ensures, c .before .kind .ensures)
 
 pub is-tree-spec : {M : Type 1} → statement M
 is-tree-spec = tie.close (tie.spec (λ c κs. search needs) (λ c κs. search needs) returns)

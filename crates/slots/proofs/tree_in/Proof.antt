@@ -1,6 +1,6 @@
 -- `tree_in` meets its contract: the table that was copied out is that of the block. Assumes nothing.
 use borrow.Author.Needs.{needs}
-use Rattle.slots.proofs.Laws.{tree-is}
+use Rattle.slots.proofs.CopiedTable.{tree-is}
 use Rattle.slots.proofs.tree_in.Statement.{statement}
 use Rattle.slots.proofs.tree_in.Tie as tie
 

@@ -6,8 +6,8 @@ use native.Mathlib.Omega.{arith}
 use lib.Seq.{length-slice}
 use borrow.Author.Needs.{needs}
 use Rattle.bits.specs.Writes.{put}
-use Rattle.bits.proofs.Laws.{bytes-put}
-use Rattle.template.proofs.Laws.{none-stated, stated-filled}
+use Rattle.bits.proofs.Writes.{bytes-put}
+use Rattle.template.proofs.Filling.{none-stated, stated-filled}
 use Rattle.template.proofs.fill_bytes.Statement.{statement}
 use Rattle.template.proofs.fill_bytes.Tie as tie
 

@@ -1,6 +1,6 @@
 -- `fill_field` meets its contract: a number is written as one, bytes where they start and as many as there are; no field has a bool. Assumes nothing.
 use borrow.Author.Needs.{needs}
-use Rattle.template.proofs.Laws.{number-filled, bytes-filled, bytes-room, bytes-counted}
+use Rattle.template.proofs.Filling.{number-filled, bytes-filled, bytes-room, bytes-counted}
 use Rattle.template.proofs.fill_field.Statement.{statement}
 use Rattle.template.proofs.fill_field.Tie as tie
 

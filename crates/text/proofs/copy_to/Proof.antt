@@ -6,7 +6,7 @@ use native.Mathlib.Omega.{arith}
 use lib.ListN.{length, drop, length-set}
 use Rattle.text.specs.declared.Cursor.{Cursor}
 use Rattle.text.specs.Output.{emit}
-use Rattle.text.proofs.Laws.{rest-none, rest-go, rest-stop}
+use Rattle.text.proofs.Emit.{rest-none, rest-go, rest-stop}
 use Rattle.text.proofs.copy_to.Statement.{statement}
 use Rattle.text.proofs.copy_to.Tie as tie
 

@@ -7,11 +7,11 @@ use lib.ListN.{length}
 use lib.Seq.{length-take-le}
 use borrow.Author.Needs.{needs}
 use Rattle.text.specs.declared.Cursor.{Cursor}
-use Rattle.text.specs.Output.{filledTo, Filled}
+use Rattle.text.specs.Output.{filledTo, FilledFront}
 use Rattle.text.proofs.filled.Statement.{statement}
 use Rattle.text.proofs.filled.Tie as tie
 
-filled-by : (b : List ℕ) (p : Cursor) (r : ℕ) → r ≡ filledTo b p → r ≤ length b → Filled b p r
+filled-by : (b : List ℕ) (p : Cursor) (r : ℕ) → r ≡ filledTo b p → r ≤ length b → FilledFront b p r
 filled-by b p r e h = record { count = e; within = h; part = sym (length-take-le r b h) }
 
 returns : tie.Need-returns

@@ -1,7 +1,7 @@
 -- `put_bytes` meets its contract: nothing is written where the cursor is full. Assumes nothing.
 use mathlib.Core.Path.{sym}
 use borrow.Author.Needs.{needs}
-use Rattle.text.proofs.Laws.{emit-full}
+use Rattle.text.proofs.Emit.{emit-full}
 use Rattle.text.proofs.put_bytes.Statement.{statement}
 use Rattle.text.proofs.put_bytes.Tie as tie
 

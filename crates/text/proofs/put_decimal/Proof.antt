@@ -12,11 +12,12 @@ use Rattle.text.proofs.put_decimal.Tie as tie
 
 returns : tie.Need-returns
 returns c =
-    let stored = c .before .before .before .before .before .before .before in
+    let wrote = c .before .before in
+    let stored = wrote .before .before .before .before .before in
     let a = stored .before .before .before .args in
     let d = stored .digits-of in
     let rest = take-all (20 - d .result) (drop (d .result) (d .last .0)) (simp length-drop (omega arith)) in
-    c .before .before .put-bytes .ensures ∙ ap (λ (t : List ℕ). emit t (a .out .now, a .to)) (rest ∙ d .ensures .1)
+    wrote .put-bytes .ensures ∙ ap (λ (t : List ℕ). emit t (a .out .now, a .to)) (rest ∙ d .ensures .1)
 
 pub put-decimal-spec : {M : Type 1} → statement M
 put-decimal-spec =

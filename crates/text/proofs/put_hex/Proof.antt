@@ -7,7 +7,7 @@ use lib.ListN.{length, drop}
 use borrow.Author.Needs.{needs}
 use Rattle.text.specs.Text.{hex}
 use Rattle.text.specs.Output.{emit}
-use Rattle.text.proofs.Laws.{hex-none, hex-go, kept}
+use Rattle.text.proofs.Emit.{hex-none, hex-go, kept}
 use Rattle.text.proofs.put_hex.Statement.{statement}
 use Rattle.text.proofs.put_hex.Tie as tie
 

@@ -4,7 +4,7 @@ use Rattle.tree.proofs.sum.Statement.{statement}
 use Rattle.tree.proofs.sum.Tie as tie
 
 returns : tie.Need-returns
-returns c = rw (c .or-else2 .ensures, c .before .or-else .ensures, c .before .before .mult-add2 .ensures, c .before .before .before .number-of2 .ensures, c .before .before .before .before .factor2 .ensures, c .before .before .before .before .before .mult-add .ensures, c .before .before .before .before .before .before .number-of .ensures, c .before .before .before .before .before .before .before .factor .ensures, c .before .before .before .before .before .before .before .before .simple-add .ensures, c .before .before .before .before .before .before .before .before .before .beside-x .ensures)
+returns c = cc
 
 pub sum-spec : {M : Type 1} → statement M
 sum-spec =

@@ -4,19 +4,8 @@ use Rattle.bounds.specs.Bounds.{isEmpty}
 use Rattle.bounds.proofs.CondBounds.is_empty.Statement.{statement}
 use Rattle.bounds.proofs.CondBounds.is_empty.Tie as tie
 
-returns : tie.Need-returns
-unfolding isEmpty
-returns c = rw (c .empty-from .ensures, c .before .enum-told .given .1)
-
-returns-2 : tie.Need-returns-2
-unfolding isEmpty
-returns-2 c = rw (c .empty-from2 .ensures, c .before .before .start .given .1)
-
-returns-3 : tie.Need-returns-3
-unfolding isEmpty
-returns-3 c = rw (c .enum-told2 .given .1)
-
 pub is-empty-spec : {M : Type 1} → statement M
+unfolding isEmpty
 is-empty-spec =
     tie.close
     (tie.spec
@@ -25,6 +14,6 @@ is-empty-spec =
     (λ c. search needs)
     (λ c κs. search needs)
     (λ c. search needs)
-    returns
-    returns-2
-    returns-3)
+    (λ c. rw (c .empty-from .ensures, c .before .enum-told .given .1))
+    (λ c. rw (c .empty-from2 .ensures, c .before .before .start .given .1))
+    (λ c. rw (c .enum-told2 .given .1)))

@@ -4,7 +4,7 @@ use mathlib.Core.Option.{Option}
 use Prim.Native.Nat.{ℕ}
 use borrow.Author.Needs.{needs}
 use Rattle.expr.specs.Forms.{Back, back}
-use Rattle.expr.proofs.Laws.{back-is}
+use Rattle.expr.proofs.WayBack.{back-is}
 use Rattle.expr.proofs.UsableAlgExpr.back.Statement.{statement}
 use Rattle.expr.proofs.UsableAlgExpr.back.Tie as tie
 

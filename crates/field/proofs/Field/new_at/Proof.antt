@@ -1,13 +1,13 @@
 -- `Field::new_at` meets its contract: a refusal of the items stands; past them the field is the items resolved. Assumes nothing.
 use mathlib.Core.Path.{sym, ap, _∙_}
 use borrow.Author.Needs.{needs}
-use Rattle.answer.specs.Paper.{paper}
-use Rattle.answer.proofs.Laws.{go, stand, passed}
+use Rattle.answer.specs.Paper.{verdictSays}
+use Rattle.answer.proofs.Chains.{go, stand, passed}
 use Rattle.field.proofs.Field.new_at.Statement.{statement}
 use Rattle.field.proofs.Field.new_at.Tie as tie
 
 returns : tie.Need-returns
-returns c = sym (stand _ (sym (c .before .before .before .check-items .ensures) ∙ ap paper (c .before .v .given .1)))
+returns c = sym (stand _ (sym (c .before .before .before .check-items .ensures) ∙ ap verdictSays (c .before .v .given .1)))
 
 returns-2 : tie.Need-returns-2
 returns-2 c =

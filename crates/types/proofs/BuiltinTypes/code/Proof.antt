@@ -3,9 +3,6 @@ use borrow.Author.Needs.{needs}
 use Rattle.types.proofs.BuiltinTypes.code.Statement.{statement}
 use Rattle.types.proofs.BuiltinTypes.code.Tie as tie
 
-returns-5 : tie.Need-returns-5
-returns-5 c = rw (c .enum-told5 .given .1)
-
 pub code-spec : {M : Type 1} → statement M
 code-spec =
     tie.close
@@ -20,5 +17,5 @@ code-spec =
     (λ c. search needs)
     (λ c. search needs)
     (λ c. search needs)
-    returns-5
+    (λ c. rw (c .enum-told5 .given .1))
     (λ c. search needs))

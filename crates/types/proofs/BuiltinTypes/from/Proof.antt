@@ -2,27 +2,9 @@
 use mathlib.Core.Path.{sym, _∙_}
 use borrow.Author.Needs.{needs}
 use Rattle.types.specs.declared.BuiltinTypes.{BuiltinTypes}
-use Rattle.types.proofs.Laws.{named, unnamed}
+use Rattle.types.proofs.CodesAndNames.{named, unnamed}
 use Rattle.types.proofs.BuiltinTypes.from.Statement.{statement}
 use Rattle.types.proofs.BuiltinTypes.from.Tie as tie
-
-returns : tie.Need-returns
-returns c = sym (named _ BuiltinTypes.U8 (sym (c .before .is-named .ensures) ∙ c .if1 .taken))
-
-returns-2 : tie.Need-returns-2
-returns-2 c = sym (named _ BuiltinTypes.U16 (sym (c .before .is-named2 .ensures) ∙ c .if2 .taken))
-
-returns-3 : tie.Need-returns-3
-returns-3 c = sym (named _ BuiltinTypes.U32 (sym (c .before .is-named3 .ensures) ∙ c .if3 .taken))
-
-returns-4 : tie.Need-returns-4
-returns-4 c = sym (named _ BuiltinTypes.U64 (sym (c .before .is-named4 .ensures) ∙ c .if4 .taken))
-
-returns-5 : tie.Need-returns-5
-returns-5 c = sym (named _ BuiltinTypes.ByteSlice (sym (c .before .is-named5 .ensures) ∙ c .if5 .taken))
-
-returns-6 : tie.Need-returns-6
-returns-6 c = sym (named _ BuiltinTypes.Bool (sym (c .before .is-named6 .ensures) ∙ c .if6 .taken))
 
 returns-7 : tie.Need-returns-7
 returns-7 c =
@@ -45,15 +27,15 @@ from-spec =
     tie.close
     (tie.spec
     (λ c κs. search needs)
-    returns
+    (λ c. sym (named _ BuiltinTypes.U8 (sym (c .before .is-named .ensures) ∙ c .if1 .taken)))
     (λ c κs. search needs)
-    returns-2
+    (λ c. sym (named _ BuiltinTypes.U16 (sym (c .before .is-named2 .ensures) ∙ c .if2 .taken)))
     (λ c κs. search needs)
-    returns-3
+    (λ c. sym (named _ BuiltinTypes.U32 (sym (c .before .is-named3 .ensures) ∙ c .if3 .taken)))
     (λ c κs. search needs)
-    returns-4
+    (λ c. sym (named _ BuiltinTypes.U64 (sym (c .before .is-named4 .ensures) ∙ c .if4 .taken)))
     (λ c κs. search needs)
-    returns-5
+    (λ c. sym (named _ BuiltinTypes.ByteSlice (sym (c .before .is-named5 .ensures) ∙ c .if5 .taken)))
     (λ c κs. search needs)
-    returns-6
+    (λ c. sym (named _ BuiltinTypes.Bool (sym (c .before .is-named6 .ensures) ∙ c .if6 .taken)))
     returns-7)

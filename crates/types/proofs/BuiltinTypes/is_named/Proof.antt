@@ -1,13 +1,8 @@
 -- `BuiltinTypes::is_named` meets its contract: the bytes of the name are the name. Assumes nothing.
 use borrow.Author.Needs.{needs}
-use Rattle.types.proofs.Laws.{name-bytes}
+use Rattle.types.proofs.CodesAndNames.{name-bytes}
 use Rattle.types.proofs.BuiltinTypes.is_named.Statement.{statement}
 use Rattle.types.proofs.BuiltinTypes.is_named.Tie as tie
-
-returns : tie.Need-returns
-returns c =
-    let name = c .before .before .before .before in
-    rw (c .same-bytes .ensures, c .before .part .ensures, name .to-string .ensures, name-bytes (name .before .before .args .self))
 
 pub is-named-spec : {M : Type 1} → statement M
 is-named-spec =
@@ -17,4 +12,4 @@ is-named-spec =
     (λ c. search needs)
     (λ c κs. search needs)
     (λ c κs. search needs)
-    returns)
+    (λ c. rw (c .same-bytes .ensures, c .before .part .ensures, c .before .before .before .before .to-string .ensures, name-bytes)))

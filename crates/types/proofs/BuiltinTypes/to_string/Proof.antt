@@ -3,24 +3,6 @@ use borrow.Author.Needs.{needs}
 use Rattle.types.proofs.BuiltinTypes.to_string.Statement.{statement}
 use Rattle.types.proofs.BuiltinTypes.to_string.Tie as tie
 
-returns : tie.Need-returns
-returns c = rw (c .before .before .enum-told .given .1)
-
-returns-2 : tie.Need-returns-2
-returns-2 c = rw (c .before .before .enum-told2 .given .1)
-
-returns-3 : tie.Need-returns-3
-returns-3 c = rw (c .before .before .enum-told3 .given .1)
-
-returns-4 : tie.Need-returns-4
-returns-4 c = rw (c .before .before .enum-told4 .given .1)
-
-returns-5 : tie.Need-returns-5
-returns-5 c = rw (c .before .before .enum-told5 .given .1)
-
-returns-6 : tie.Need-returns-6
-returns-6 c = rw (c .before .before .enum-told6 .given .1)
-
 pub to-string-spec : {M : Type 1} → statement M
 to-string-spec =
     tie.close
@@ -31,9 +13,9 @@ to-string-spec =
     (λ c. search needs)
     (λ c. search needs)
     (λ c. search needs)
-    returns
-    returns-2
-    returns-3
-    returns-4
-    returns-5
-    returns-6)
+    (λ c. rw (c .before .before .enum-told .given .1))
+    (λ c. rw (c .before .before .enum-told2 .given .1))
+    (λ c. rw (c .before .before .enum-told3 .given .1))
+    (λ c. rw (c .before .before .enum-told4 .given .1))
+    (λ c. rw (c .before .before .enum-told5 .given .1))
+    (λ c. rw (c .before .before .enum-told6 .given .1)))

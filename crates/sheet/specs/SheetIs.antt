@@ -1,0 +1,28 @@
+-- What exactly step 1 accepts, said of the blocks and not of the tests. Assumes nothing.
+use mathlib.Core.Path.{_≡_}
+use mathlib.Core.Bool.{true}
+use mathlib.Core.List.{List}
+use Prim.Native.Nat.{ℕ, _+_, _*_, _≤_, _<_}
+use lib.ListN.{length}
+use Rattle.blocks.specs.Layout.{blockSize, kindF, kindL, kindC, statedSlot, layoutHolds}
+use Rattle.blocks.specs.Check.{checkHolds}
+use Rattle.sheet.specs.Blocks.{blockCount, blockAt, kindAt, fieldCount, lengthCount, condCount}
+
+pub record SheetIs (s : List ℕ) : Type 0 where
+  -- whole blocks, at most 99
+  pub whole : length s ≡ blockSize * blockCount s
+  pub most : blockCount s ≤ 99
+  -- each with its check, and inside its layout
+  pub checked : (i : ℕ) → i < blockCount s → checkHolds (blockAt s i) ≡ true
+  pub laid-out : (i : ℕ) → i < blockCount s → layoutHolds (blockAt s i) ≡ true
+  -- first the F blocks, then the L blocks, then the C blocks, and no others
+  pub f-first : (i : ℕ) → i < fieldCount s → kindAt s i ≡ kindF
+  pub l-next : (i : ℕ) → fieldCount s ≤ i → i < fieldCount s + lengthCount s → kindAt s i ≡ kindL
+  pub c-last : (i : ℕ) → fieldCount s + lengthCount s ≤ i → i < blockCount s → kindAt s i ≡ kindC
+  pub no-others : fieldCount s + lengthCount s + condCount s ≡ blockCount s
+  -- at most 64, 3 and 32
+  pub most-fields : fieldCount s ≤ 64
+  pub most-lengths : lengthCount s ≤ 3
+  pub most-conds : condCount s ≤ 32
+  -- no two L blocks give one slot
+  pub one-each : (i j : ℕ) → i < j → j < blockCount s → kindAt s i ≡ kindL → kindAt s j ≡ kindL → statedSlot (blockAt s i) ≡ statedSlot (blockAt s j) → ⊥

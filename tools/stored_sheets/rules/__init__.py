@@ -1,0 +1,1 @@
+"""The rules of docs/RULES.md, stated by themselves: what has to be answered."""
