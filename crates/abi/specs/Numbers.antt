@@ -13,7 +13,7 @@ use Rattle.header.specs.declared.Header.{Header}
 use Rattle.header.specs.Names.{nameAt, fieldNamed}
 use Rattle.header.specs.Starts.{headerLayout}
 use Rattle.expr.specs.declared.UsableAlgExpr.{UsableAlgExpr}
-use Rattle.expr.specs.Forms.{forward, back}
+use Rattle.expr.specs.Forms.{forward, back, formNumber, firstIn, secondIn, formOf}
 use Rattle.slots.specs.declared.LengthField.{LengthField}
 use Rattle.slots.specs.Slots.{lengthField, blockOfSlot}
 use Rattle.length.specs.Step.{largestLength}
@@ -67,13 +67,9 @@ spanNumbers p _ = firstBit p / 8 ∷ locatorWidth p / 8 ∷ []
 
 -- ---- a length slot: what it holds, its two numbers, the index of its field, and the length of the field's largest value; 0 for what it lacks
 
--- 0 undefined; 1 x; 2 x + a; 3 x * m; 4 (x + a) * m; 5 x * m + a; 6 no block gives the slot
+-- 0 undefined; 1 x; 2 x + a; 3 x * m; 4 (x + a) * m; 5 x * m + a, as a block states them; 6 no block gives the slot
 abbrev pub exprNumbers : UsableAlgExpr → List ℕ
-exprNumbers UsableAlgExpr.IdentOnly = 1 ∷ 0 ∷ 0 ∷ []
-exprNumbers (UsableAlgExpr.SimpleAdd a) = 2 ∷ a ∷ 0 ∷ []
-exprNumbers (UsableAlgExpr.SimpleMult m) = 3 ∷ m ∷ 0 ∷ []
-exprNumbers (UsableAlgExpr.AddMult a m) = 4 ∷ a ∷ m ∷ []
-exprNumbers (UsableAlgExpr.MultAdd m a) = 5 ∷ m ∷ a ∷ []
+exprNumbers e = formNumber e ∷ firstIn e ∷ secondIn e ∷ []
 
 abbrev pub formNumbers : LengthField → List ℕ
 formNumbers LengthField.Absent = 6 ∷ 0 ∷ 0 ∷ []
@@ -97,22 +93,14 @@ slotAnswer s slot = definitionCheck s andThen gives (slotNumbers s slot)
 abbrev pub asTheyAre : List ℕ → List ℕ
 asTheyAre numbers = numbers
 
--- ---- forward and back by numbers: the form of a number from 1 to 5; any other is none
-
-unfoldable pub exprFrom : ℕ → ℕ → ℕ → Option UsableAlgExpr
-exprFrom form first second =
-    cond (eqb form 1) (some UsableAlgExpr.IdentOnly)
-    (cond (eqb form 2) (some (UsableAlgExpr.SimpleAdd first))
-    (cond (eqb form 3) (some (UsableAlgExpr.SimpleMult first))
-    (cond (eqb form 4) (some (UsableAlgExpr.AddMult first second))
-    (cond (eqb form 5) (some (UsableAlgExpr.MultAdd first second)) none))))
+-- ---- forward and back by the number of a form, from 1 to 5, and its numbers; any other number is none
 
 abbrev pub byForm : (UsableAlgExpr → ℕ → Option ℕ) → Option UsableAlgExpr → ℕ → Option ℕ
 byForm work (some e) x = work e x
 byForm work none x = none
 
 abbrev pub forwardBy : ℕ → ℕ → ℕ → ℕ → Option ℕ
-forwardBy form first second x = byForm forward (exprFrom form first second) x
+forwardBy form first second x = byForm forward (formOf form first second) x
 
 abbrev pub backBy : ℕ → ℕ → ℕ → ℕ → Option ℕ
-backBy form first second y = byForm back (exprFrom form first second) y
+backBy form first second y = byForm back (formOf form first second) y

@@ -25,14 +25,13 @@ ghost use Rattle.answer.specs.Walk.{orZero};
 ghost use Rattle.layout.specs.Access.{number as aNumber, bytes as someBytes};
 ghost use Rattle.header.specs.Names.{nameAt, fieldNamed};
 ghost use Rattle.expr.specs.Forms.{maybeNumberSays, lengthSays};
-ghost use Rattle.tree.specs.Tree.{usableSays};
 ghost use Rattle.locator.specs.Locator.{heldDefault, reachAt, writeCheckAt, readAt, applyAt};
 ghost use Rattle.definition.specs.Definition.{definedHeader};
 ghost use Rattle.template.specs.Template.{templateCheck};
 ghost use Rattle.access.specs.Access.{locatorIn};
 ghost use Rattle.listing.specs.Listing.{Listed};
 ghost use Rattle.abi.specs.Told.{laid, nothing, Told, Found};
-ghost use Rattle.abi.specs.Numbers.{headerNumbers, templateAfter, heldNumber, locatorNumbers, heldFrom, locatorFrom, valueNumbers, spanNumbers, exprNumbers, formNumbers, slotFieldNumber, slotNumbers, slotAnswer, asTheyAre, exprFrom, forwardBy, backBy};
+ghost use Rattle.abi.specs.Numbers.{headerNumbers, templateAfter, heldNumber, locatorNumbers, heldFrom, locatorFrom, valueNumbers, spanNumbers, exprNumbers, formNumbers, slotFieldNumber, slotNumbers, slotAnswer, asTheyAre, forwardBy, backBy};
 
 // ---- numbers in a lent slice
 
@@ -239,19 +238,6 @@ fn tell_slot(answer: &mut [u64], sheet: &[u8], slot: u8)
     tell(answer, 4, or_zero(in_value(largest)));
 }
 
-fn expr_from(form: u8, first: u64, second: u64) -> Usable
-    ensures { λ r. ⌜ usableSays r ≡ exprFrom form first second ⌝ }
-{
-    match form {
-        1 => Usable::Expr(UsableAlgExpr::IdentOnly),
-        2 => Usable::Expr(UsableAlgExpr::SimpleAdd(first)),
-        3 => Usable::Expr(UsableAlgExpr::SimpleMult(first)),
-        4 => Usable::Expr(UsableAlgExpr::AddMult(first, second)),
-        5 => Usable::Expr(UsableAlgExpr::MultAdd(first, second)),
-        _ => Usable::None,
-    }
-}
-
 // A number, if there is one; true where there is.
 fn tell_value(answer: &mut [u64], v: MaybeNumber) -> bool
     ensures { λ r. ⌜ Found (maybeNumberSays v) (now (answer .entry)) (now (answer .exit)) r ⌝ }
@@ -334,7 +320,7 @@ pub extern "C" fn pktfmt_forward(
 ) -> bool
     ensures { λ r. ⌜ Found (forwardBy form first second x) (now (answer .entry)) (now (answer .exit)) r ⌝ }
 {
-    match expr_from(form, first, second) {
+    match Usable::of_form(form, first, second) {
         Usable::Expr(e) => tell_value(answer, in_value(e.exec(x))),
         Usable::None => false,
     }
@@ -345,7 +331,7 @@ pub extern "C" fn pktfmt_forward(
 pub extern "C" fn pktfmt_back(form: u8, first: u64, second: u64, y: u64, answer: &mut [u64]) -> bool
     ensures { λ r. ⌜ Found (backBy form first second y) (now (answer .entry)) (now (answer .exit)) r ⌝ }
 {
-    match expr_from(form, first, second) {
+    match Usable::of_form(form, first, second) {
         Usable::Expr(e) => tell_value(answer, e.reverse_exec(Bytes(y))),
         Usable::None => false,
     }

@@ -3,17 +3,19 @@
 use mathlib.Core.Path.{_≡_, refl, sym, ap, _∙_}
 use mathlib.Core.Bool.{Bool, not, Bool·beq}
 use mathlib.Core.List.{List}
+use mathlib.Core.Logic.{_↔_, Iff·rfl}
 use Prim.Native.Nat.{ℕ, _*_, _<_}
 use native.Mathlib.Decide.{decLt}
 use native.Mathlib.Omega.{arith}
 use lib.Dec.{leb, ltb}
 use lib.ListN.{length}
-use borrow.Author.Tests.{leb-false, le-leb, lt-leb}
+use borrow.Author.Tests.{le-leb, lt-leb}
 use Rattle.answer.specs.declared.Group.{Group}
 use Rattle.answer.specs.declared.Refusal.{Refusal}
 use Rattle.answer.specs.declared.Verdict.{Verdict}
 use Rattle.answer.specs.Paper.{Answer, gives, refused, Check, accepted, refusalSays, refuse, _andThen_}
-use Rattle.answer.proofs.Chains.{andThen-assoc, stand, both, not-refused, given, not-given}
+use Rattle.answer.proofs.Chains.{andThen-assoc, stand, both-is, refuse-is, given, not-given}
+use Rattle.answer.proofs.Tests.{leb-is-not}
 use Rattle.answer.proofs.OneToOne.{refusal-one, verdict-one}
 use Rattle.bits.specs.declared.BitPos.{BitPos}
 use Rattle.bits.specs.Positions.{globalOf}
@@ -84,7 +86,8 @@ module _ (s : List ℕ) (i : ℕ) where
   unfolding sheetReach reach locatorCheck
   after-locator n asBytes = rw (layout-length s) (sym (andThen-assoc (definitionCheck s) (refuse (leb (fieldCount s) i) Group.Access 1 i) (rest n asBytes)))
 
-  read-after : (b : List ℕ) (asBytes : Bool) → sheetRead s b asBytes i ≡ (sheetReach s (length b) asBytes i andThen gives (valueAt (headerLayout s) b asBytes i))
+  -- a read is one of what can be reached
+  pub read-after : (b : List ℕ) (asBytes : Bool) → sheetRead s b asBytes i ≡ (sheetReach s (length b) asBytes i andThen gives (valueAt (headerLayout s) b asBytes i))
   unfolding sheetRead sheetReach read
   read-after b asBytes = sym (andThen-assoc (definitionCheck s) (reach (headerLayout s) (length b) asBytes i) (gives (valueAt (headerLayout s) b asBytes i)))
 
@@ -142,13 +145,17 @@ module _ (s : List ℕ) (ok : Accepted s) where
   unfolding sheetApply
   apply-is b w = rw ok
 
+-- it is given exactly where the sheet is accepted and has the field
+pub locator-is : (s : List ℕ) (i : ℕ) → (locatorCheck s i ≡ accepted) ↔ (Accepted s × (i < fieldCount s))
+unfolding locatorCheck
+locator-is s i = simp (both-is, refuse-is, leb-is-not) Iff·rfl
+
 module _ (s : List ℕ) (i : ℕ) {p : Locator} (e : locatorIn s i ≡ gives p) where
   found : (locatorCheck s i ≡ accepted) × (locatorOf s i ≡ p)
   found = given (locatorCheck s i) e
 
   there : Accepted s × (i < fieldCount s)
-  unfolding locatorCheck
-  there = let two = both (definitionCheck s) _ (found .0) in (two .0, leb-false (fieldCount s) i (not-refused _ Group.Access 1 i (two .1)))
+  there = locator-is s i .0 (found .0)
 
   pub reach-there : (n : ℕ) (asBytes : Bool) → reachAt p n asBytes ≡ sheetReach s n asBytes i
   reach-there n asBytes = rw (← (found .1)) (reach-same s (there .0) i (there .1) n asBytes ∙ sym (reach-is s (there .0) n asBytes i))

@@ -1,9 +1,9 @@
 -- Laws of walks: a test at each index, and the first index at which a test holds; where the walk begins, one index further, where it ends, and what
--- that tells. Assumes nothing.
-use mathlib.Core.Path.{_≡_, refl, ap, _∙_}
+-- that tells. Then laws of what there may be: exactly when something is there, and what holds of it. Assumes nothing.
+use mathlib.Core.Path.{_≡_, refl, ap, sym, _∙_}
 use mathlib.Core.Bool.{Bool, true, false, cond, _&&_, true≢false}
-use mathlib.Core.Logic.{⊎-elim, _↔_}
-use mathlib.Core.Option.{Option, none, some}
+use mathlib.Core.Logic.{_⊎_, inl, inr, ⊎-elim, _↔_}
+use mathlib.Core.Option.{Option, none, some, Option·none-ne-some}
 use Prim.Native.Nat.{ℕ, zero, suc, _+_, _<_}
 use native.Mathlib.Nat.{eq-or-lt-of-le}
 use native.Mathlib.Numerals.{add-one}
@@ -79,3 +79,31 @@ nowhere-is test n = (
   λ e i l. fails-is (test i) .0 (where-nowhere test n (not-some (firstWhere test n) e) i l),
   λ h. ap isSome (where-nothing test n (λ i l. fails-is (test i) .1 (h i l))),
 )
+
+-- ---- what there may be
+
+module _ {A : Type 0} where
+  -- something only where a test holds, or only where it does not
+  pub if-is : (test : Bool) (o : Option A) (a : A) → (cond test o none ≡ some a) ↔ ((test ≡ true) × (o ≡ some a))
+  if-is true o a = (λ e. (refl, e), λ p. p .1)
+  if-is false o a = (λ e. absurd (Option·none-ne-some a e), λ p. absurd (true≢false (sym (p .0))))
+
+  pub else-is : (test : Bool) (o : Option A) (a : A) → (cond test none o ≡ some a) ↔ ((test ≡ false) × (o ≡ some a))
+  else-is true o a = (λ e. absurd (Option·none-ne-some a e), λ p. absurd (true≢false (p .0)))
+  else-is false o a = (λ e. (refl, e), λ p. p .1)
+
+  -- of two the first that is there
+  pub either-found : (o next : Option A) (a : A) → (o orElse next) ≡ some a → (o ≡ some a) ⊎ (next ≡ some a)
+  either-found (some b) next a e = inl e
+  either-found none next a e = inr e
+
+  module _ (X : Option A → Type 0) (P : A → Type 0) (is : (a : A) → X (some a) ↔ P a) where
+    -- what does not hold of nothing holds exactly where there is something of which it holds
+    pub there-is : (X none → ⊥) → (o : Option A) → X o ↔ ((a : A) × (o ≡ some a) × P a)
+    there-is not-none (some a) = (λ x. (a, refl, is a .0 x), λ p. let same : a ≡ p .0 = cc in is a .1 (rw same (p .2)))
+    there-is not-none none = (λ x. absurd (not-none x), λ p. absurd (Option·none-ne-some (p .0) (p .1)))
+
+    -- and what holds of nothing, exactly where it holds of what there is
+    pub any-is : X none → (o : Option A) → X o ↔ ((a : A) → o ≡ some a → P a)
+    any-is of-none (some a) = (λ x b q. let same : b ≡ a = cc in rw same (is a .0 x), λ h. is a .1 (h a refl))
+    any-is of-none none = (λ x b q. absurd (Option·none-ne-some b q), λ _. of-none)

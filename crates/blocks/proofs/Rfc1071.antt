@@ -1,21 +1,80 @@
--- What RFC 1071 says of the sum: it does not depend on the order of the words, nor, but for the swap itself, on the order of the bytes in them;
--- the complement of the sum makes the whole 65,535. (Its worked example is computed in specs/Examples.antt.) Assumes nothing.
+-- What RFC 1071 says of the sum: words may be added in any order and in any grouping, also as 32-bit numbers, and, but for the swap itself, with their bytes
+-- in either order. The check word is the complement of the sum of the others: `check-word`. (The RFC's worked example is in specs/Examples.) Assumes nothing.
 use mathlib.Core.Path.{_≡_, refl, sym, ap, _∙_}
 use mathlib.Core.Bool.{true, false}
 use mathlib.Core.List.{List, [], _∷_, _++_, map, Perm, List·Permᴰ, List·Permᴰ·nil, List·Permᴰ·cons, List·Permᴰ·swap, List·Permᴰ·trans}
-use mathlib.Core.Logic.{∥∥₁-elim}
+use mathlib.Core.Logic.{_⊎_, inl, inr, _↔_, ∥∥₁-elim}
 use Prim.Native.Nat.{ℕ, _+_, _-_, _*_, _/_, _%_, _≤_, _<_}
-use native.Mathlib.Nat.{ℕ-set}
+use native.Mathlib.Nat.{ℕ-set, add-comm}
 use native.Mathlib.Decide.{decLt}
 use native.Mathlib.Omega.{arith}
 use lib.ListN.{length, replicate, length-append}
-use lib.Dec.{eqb}
-use borrow.Author.Tests.{eq-eqb, ne-eqb}
+use Rattle.answer.proofs.Tests.{eqb-is}
 use Rattle.octets.specs.Octets.{AreBytes}
+use Rattle.blocks.specs.Layout.{checkAt}
 use Rattle.blocks.specs.Ones.{words, onesAdd, AreWords, onesFrom, onesSum}
-use Rattle.blocks.proofs.Folding.{folded-le, ones-folded, words-of-bytes, words-append, check-block}
+use Rattle.blocks.proofs.Folding.{folded-le, folded-add, folded-alike, ones-add, ones-folded, words-of-bytes, words-append, check-block}
 use Rattle.blocks.specs.Check.{checkHolds}
-use Rattle.blocks.specs.Working.{swapped, plainSum, folded}
+use Rattle.blocks.specs.Working.{swapped, plainSum, folded, Are32Bits, halves}
+
+-- ---- groups of words
+
+carry-le : (a b : ℕ) → a ≤ 65535 → b ≤ 65535 → onesAdd a b ≤ 65535
+unfolding onesAdd
+carry-le a b h k = omega arith
+
+pub ones-comm : (a b : ℕ) → onesAdd a b ≡ onesAdd b a
+unfolding onesAdd
+ones-comm a b = rw (add-comm a b)
+
+-- three words added are their plain sum, folded
+three-folded : (a b c : ℕ) → a ≤ 65535 → b ≤ 65535 → c ≤ 65535 → onesAdd (onesAdd a b) c ≡ folded (a + b + c)
+three-folded a b c h k l = rw (ones-add a b h k) (ones-add (folded (a + b)) c (folded-le (a + b)) l ∙ folded-add (a + b) c)
+
+pub ones-assoc : (a b c : ℕ) → a ≤ 65535 → b ≤ 65535 → c ≤ 65535 → onesAdd (onesAdd a b) c ≡ onesAdd a (onesAdd b c)
+ones-assoc a b c h k l = three-folded a b c h k l ∙ ap folded (omega arith) ∙ sym (three-folded b c a k l h) ∙ ones-comm (onesAdd b c) a
+
+pub ones-le : (ws : List ℕ) → AreWords ws → onesSum ws ≤ 65535
+ones-le ws h = rw (ones-folded ws h) (folded-le (plainSum ws))
+
+-- a word and a group, and so two groups, summed apart and added
+from-apart : (a b : ℕ) (ws : List ℕ) → a ≤ 65535 → b ≤ 65535 → AreWords ws → onesFrom (onesAdd a b) ws ≡ onesAdd a (onesFrom b ws)
+unfolding onesFrom
+from-apart a b [] h k l = refl
+from-apart a b (w ∷ ws) h k l = rw (ones-assoc a b w h k (l .0)) (from-apart a (onesAdd b w) ws h (carry-le b w k (l .0)) (l .1))
+
+ones-append : (a : ℕ) (ws vs : List ℕ) → onesFrom a (ws ++ vs) ≡ onesFrom (onesFrom a ws) vs
+unfolding onesFrom
+ones-append a [] vs = refl
+ones-append a (w ∷ ws) vs = ones-append (onesAdd a w) ws vs
+
+pub ones-groups : (ws vs : List ℕ) → AreWords ws → AreWords vs → onesSum (ws ++ vs) ≡ onesAdd (onesSum ws) (onesSum vs)
+unfolding onesAdd
+ones-groups ws vs h k =
+    let sum = onesSum ws in
+    let zero-more : onesAdd sum 0 ≡ sum = omega (arith, ones-le ws h) in
+    ones-append 0 ws vs ∙ ap (λ (x : ℕ). onesFrom x vs) (sym zero-more) ∙ from-apart sum 0 vs (ones-le ws h) (omega arith) k
+
+-- 32-bit numbers added up plainly and folded are the sum of their 16-bit halves: a number and its halves differ by a multiple of 65,535
+pub halves-words : (ns : List ℕ) → Are32Bits ns → AreWords (halves ns)
+unfolding halves
+halves-words [] h = tt
+halves-words (n ∷ ns) h = (omega arith, (omega arith, halves-words ns (h .1)))
+
+halved : (ns : List ℕ) → (k : ℕ) × (plainSum ns ≡ plainSum (halves ns) + 65535 * k) × (k ≤ plainSum (halves ns))
+unfolding plainSum halves
+halved [] = (0, refl, omega arith)
+halved (n ∷ ns) = let rest = halved ns in (n / 65536 + rest .0, omega arith, omega arith)
+
+pub ones-of-32 : (ns : List ℕ) → Are32Bits ns → folded (plainSum ns) ≡ onesSum (halves ns)
+ones-of-32 ns h =
+    let parts = halved ns in
+    let whole = plainSum ns in
+    let two = plainSum (halves ns) in
+    folded-alike two whole (omega arith) (omega arith) (multiple two whole (parts .0) (parts .1)) ∙ sym (ones-folded (halves ns) (halves-words ns h))
+  where
+    multiple : (a b k : ℕ) → b ≡ a + 65535 * k → b % 65535 ≡ a % 65535
+    multiple a b k e = omega arith
 
 -- ---- the order of the words
 
@@ -45,7 +104,7 @@ exchange : (w : ℕ) → swapped w + 65535 * (w / 256) ≡ 256 * w
 unfolding swapped
 exchange w = omega arith
 
-exchange-le : (w : ℕ) → w ≤ 65535 → swapped w ≤ 65535
+pub exchange-le : (w : ℕ) → w ≤ 65535 → swapped w ≤ 65535
 unfolding swapped
 exchange-le w h = omega arith
 
@@ -56,10 +115,6 @@ exchange-zero w = (λ e. omega arith, λ e. rw e)
 carry : (a b : ℕ) → onesAdd a b + 65535 * ((a + b) / 65536) ≡ a + b
 unfolding onesAdd
 carry a b = omega arith
-
-carry-le : (a b : ℕ) → a ≤ 65535 → b ≤ 65535 → onesAdd a b ≤ 65535
-unfolding onesAdd
-carry-le a b h k = omega arith
 
 carry-zero : (a b : ℕ) → (onesAdd a b ≡ 0 → a + b ≡ 0) × (a + b ≡ 0 → onesAdd a b ≡ 0)
 unfolding onesAdd
@@ -97,48 +152,38 @@ pub any-byte-order : (ws : List ℕ) → AreWords ws → onesSum (map swapped ws
 unfolding swapped
 any-byte-order ws h = swapped-from 0 ws (omega arith) h
 
-exchanged-words : (ws : List ℕ) → AreWords ws → AreWords (map swapped ws)
-exchanged-words [] h = tt
-exchanged-words (w ∷ ws) h = (exchange-le w (h .0), exchanged-words ws (h .1))
+-- ---- the check
 
--- so they may be exchanged first, added up plainly, and folded
-pub swapped-folded : (ws : List ℕ) → AreWords ws → folded (plainSum (map swapped ws)) ≡ swapped (onesSum ws)
-swapped-folded ws h = sym (ones-folded (map swapped ws) (exchanged-words ws h)) ∙ any-byte-order ws h
-
--- 65,535 alone has the bytes of 65,535
-exchanged-check : (w : ℕ) → w ≤ 65535 → eqb (swapped w) 65535 ≡ eqb w 65535
-unfolding swapped
-exchanged-check w h = go (decLt w 65535)
+-- the word that makes the sum 65,535
+completes : (s w : ℕ) → s ≤ 65535 → w ≤ 65535 → (onesAdd s w ≡ 65535) ↔ ((w ≡ 65535 - s) ⊎ ((s ≡ 65535) × (w ≡ 65535)))
+unfolding onesAdd
+completes s w h k = (λ e. go e (decLt (s + w) 65536), back)
   where
-    go : Dec (w < 65535) → eqb (w % 256 * 256 + w / 256) 65535 ≡ eqb w 65535
-    go (yes l) = ne-eqb (w % 256 * 256 + w / 256) 65535 (λ e. omega arith) ∙ sym (ne-eqb w 65535 (λ e. omega arith))
-    go (no l) = let all : w ≡ 65535 = omega arith in rw all
+    go : (s + w) % 65536 + (s + w) / 65536 ≡ 65535 → Dec (s + w < 65536) → (w ≡ 65535 - s) ⊎ ((s ≡ 65535) × (w ≡ 65535))
+    go e (yes l) = inl (omega arith)
+    go e (no l) = inr (omega arith)
 
--- and the check is the same
-pub check-swapped : (b : List ℕ) → AreBytes b → length b ≡ 512 → checkHolds b ≡ eqb (swapped (onesSum (words b))) 65535
-check-swapped b h l =
-    check-block b l ∙ sym (exchanged-check (onesSum (words b)) (rw (ones-folded (words b) (words-of-bytes b h)) (folded-le (plainSum (words b)))))
+    back : (w ≡ 65535 - s) ⊎ ((s ≡ 65535) × (w ≡ 65535)) → (s + w) % 65536 + (s + w) / 65536 ≡ 65535
+    back (inl e) = omega arith
+    back (inr e) = omega arith
 
--- ---- the complement
+-- a block passes exactly where its last word is the complement of the sum of the others, or 65,535 where that complement is 0
+module _ (p : List ℕ) (bytes : AreBytes p) (size : length p ≡ checkAt) where
+  sum-with : (w : ℕ) → w ≤ 65535 → onesSum (words (p ++ (w / 256 ∷ w % 256 ∷ []))) ≡ onesAdd (onesSum (words p)) w
+  unfolding words onesFrom onesAdd
+  sum-with w h =
+      let word : 256 * (w / 256) + w % 256 ≡ w = omega arith in
+      let pairs : words (p ++ (w / 256 ∷ w % 256 ∷ [])) ≡ words p ++ (w ∷ []) = words-append 255 p (w / 256 ∷ w % 256 ∷ []) size ∙ rw word in
+      ap onesSum pairs
+      ∙ ones-groups (words p) (w ∷ []) (words-of-bytes p bytes) (h, tt)
+      ∙ ap (onesAdd (onesSum (words p))) (omega arith)
 
-ones-append : (a : ℕ) (ws vs : List ℕ) → onesFrom a (ws ++ vs) ≡ onesFrom (onesFrom a ws) vs
-unfolding onesFrom
-ones-append a [] vs = refl
-ones-append a (w ∷ ws) vs = ones-append (onesAdd a w) ws vs
-
--- words and the complement of their sum have the sum 65,535
-pub complemented : (ws : List ℕ) → AreWords ws → onesSum (ws ++ ((65535 - onesSum ws) ∷ [])) ≡ 65535
-complemented ws h = ones-append 0 ws _ ∙ last (onesSum ws) (rw (ones-folded ws h) (folded-le (plainSum ws)))
-  where
-    last : (x : ℕ) → x ≤ 65535 → onesFrom x ((65535 - x) ∷ []) ≡ 65535
-    last x l = unfold onesFrom onesAdd in omega arith
-
--- so a block passes whose last word is the complement of the sum of the others
-pub complement-passes : (p : List ℕ) → AreBytes p → length p ≡ 510 → (h l : ℕ) → 256 * h + l ≡ 65535 - onesSum (words p) → checkHolds (p ++ (h ∷ l ∷ [])) ≡ true
-unfolding checkHolds
-complement-passes p b e h l c =
-    let pairs : words (p ++ (h ∷ l ∷ [])) ≡ words p ++ ((65535 - onesSum (words p)) ∷ []) = words-append 255 p (h ∷ l ∷ []) e ∙ rw c in
-    rw (eq-eqb (length (p ++ (h ∷ l ∷ []))) 512 (length-append p _ ∙ rw e), pairs, complemented (words p) (words-of-bytes p b))
+  pub check-word : (w : ℕ) → w ≤ 65535
+      → (checkHolds (p ++ (w / 256 ∷ w % 256 ∷ [])) ≡ true) ↔ ((w ≡ 65535 - onesSum (words p)) ⊎ ((onesSum (words p) ≡ 65535) × (w ≡ 65535)))
+  check-word w h =
+      let b = p ++ (w / 256 ∷ w % 256 ∷ []) in
+      let long : length b ≡ 512 = length-append p (w / 256 ∷ w % 256 ∷ []) ∙ rw size in
+      rw (check-block b long, sum-with w h) (simp eqb-is (completes (onesSum (words p)) w (ones-le (words p) (words-of-bytes p bytes)) h))
 
 -- the all-zero block does not
 pub all-zero-fails : checkHolds (replicate 512 0) ≡ false

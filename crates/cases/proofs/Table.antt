@@ -5,12 +5,16 @@ use Rattle.answer.specs.Paper.{first}
 use Rattle.answer.specs.Walk.{each, firstWhere}
 use Rattle.octets.specs.Octets.{be, allIn, isZero, isNameByte, same}
 use Rattle.number.specs.Numbers.{maxValue}
-use Rattle.bits.specs.Bits.{num}
+use Rattle.bits.specs.Bits.{bit, num}
 use Rattle.bits.specs.Writes.{newBit, pack, put}
-use Rattle.blocks.specs.Layout.{named, nameOf, codesLayout, defaultLayout, fLayout, lLayout, cLayout, layoutHolds}
+use Rattle.blocks.specs.Layout.{named, nameOf, codesLayout, defaultLayout, fLayout, treeLayout, lLayout, cLayout, layoutHolds}
+use Rattle.blocks.specs.Nodes.{nodeIn}
 use Rattle.blocks.specs.Check.{checkHolds}
+use Rattle.stated.specs.Parts.{numberBytes, rows}
+use Rattle.stated.specs.Stated.{blockOf}
 use Rattle.sheet.specs.Blocks.{blockAt, count}
 use Rattle.sheet.specs.Sheet as sheet
+use Rattle.types.specs.Types.{typeOfCode}
 use Rattle.field.specs.Fields.{inferRepr, fieldCheck}
 use Rattle.layout.specs.Layout.{bits, defaults, fill, template}
 use Rattle.layout.specs.Indexed.{fieldsFrom, position}
@@ -23,15 +27,15 @@ use Rattle.cond.specs.Ranges.{rangeIn}
 use Rattle.cond.specs.Step as cond
 use Rattle.definition.specs.Definition.{definitionCheck}
 use Rattle.definition.specs.Unchecked.{entryBlock}
-use Rattle.cases.specs.Sheets.{blockBytes, sheetOf}
+use Rattle.cases.specs.Sheets.{sheetOf}
 use Rattle.cases.specs.Table.{asked, table}
 
 pub table-holds : map (λ c. asked (c .question)) table ≡ map (λ c. c .expected) table
-unfolding first be allIn isZero isNameByte same checkHolds maxValue num newBit pack put
-    each named nameOf codesLayout defaultLayout fLayout lLayout cLayout layoutHolds
-    firstWhere blockAt count sheet.blockFault sheet.sheetCheck inferRepr fieldCheck
+unfolding first be allIn isZero isNameByte same checkHolds maxValue bit num newBit pack put
+    each named nameOf codesLayout defaultLayout fLayout treeLayout lLayout cLayout layoutHolds nodeIn
+    firstWhere blockAt count sheet.blockFault sheet.sheetCheck typeOfCode inferRepr fieldCheck
     bits defaults fill template fieldsFrom position headerLayout header.headerFault header.headerCheck
     in64Bits less over exprIn length.lengthFieldFault length.lengthFault length.lengthCheck
     rangeIn cond.condFault cond.condCheck cond.rangeNumbers definitionCheck entryBlock
-    blockBytes sheetOf asked table
+    numberBytes rows blockOf sheetOf asked table
 table-holds = refl

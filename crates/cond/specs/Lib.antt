@@ -1,3 +1,4 @@
 pub mod Ranges
 pub mod Step
 pub mod ConditionsAre
+pub mod RangesRead

@@ -12,8 +12,8 @@ use borrow.Author.Tests.{lt-ltb, le-leb, eq-eqb}
 use Rattle.number.specs.Numbers.{maxBytes, maxValue}
 use Rattle.number.proofs.Limits.{no-max-zero, no-max-wide, max-is}
 use Rattle.sheet.specs.Blocks.{blockCount, blockAt, fieldCount, lengthCount, condCount}
-use Rattle.sheet.specs.SheetIs as sheet
-use Rattle.sheet.proofs.SheetIs.{sheet-is}
+use Rattle.sheet.specs.SheetIs.{InOrder}
+use Rattle.sheet.proofs.SheetIs.{in-order}
 use Rattle.field.specs.declared.Field.{Field}
 use Rattle.field.specs.Sound.{widthOf}
 use Rattle.field_blocks.specs.Step.{fieldAt}
@@ -21,8 +21,9 @@ use Rattle.header.specs.Step.{headerBytes}
 use Rattle.expr.specs.declared.UsableAlgExpr.{UsableAlgExpr}
 use Rattle.slots.specs.declared.LengthField.{LengthField}
 use Rattle.slots.specs.Slots.{exprIn, held, heldBy, lengthField, blockOfSlot}
+use Rattle.slots.proofs.Expresses.{expresses-is}
 use Rattle.length.specs.Step.{largest, usedBy, worked, largestLength}
-use Rattle.length.proofs.LengthsAre.{lengths-are}
+use Rattle.length.proofs.LengthsAre.{largest-is, lengths-are}
 use Rattle.bounds.specs.declared.CondBounds.{CondBounds}
 use Rattle.bounds.specs.Bounds.{inside, firstLast}
 use Rattle.bounds.proofs.InNumbers.{clipped-inside, first-last-none}
@@ -58,15 +59,16 @@ module _ (s : List ℕ) (ok : Accepted s) where
 
       by-block : (b : Option ℕ) → blockOfSlot s slot ≡ b → heldBy s b ≡ LengthField.Expr e → (most : ℕ) × (worked largest (usedBy s (orZero b) (heldBy s b)) ≡ some most) × (most ≤ maxBytes)
       by-block (some at) is q =
-          let found = lengths-are s (headerBytes s) .0 (five-steps s ok .length) .used slot at h is e (of-expr (exprIn (blockAt s at)) q) in
+          let expressed = expresses-is (blockAt s at) e .0 (of-expr (exprIn (blockAt s at)) q) in
+          let found = lengths-are s (headerBytes s) .0 (five-steps s ok .length) .used slot at h is e expressed in
           let serves = found .2 in
-          (serves .most, rw (q, found .1) (serves .most-is), serves .most-allowed)
+          (serves .most, rw (q, found .1) (largest-is e (found .0) (serves .most) .1 (serves .some-bits, serves .narrow, serves .most-is)), serves .most-allowed)
       by-block none is q = absurd (let z : _≡_ {A = ℕ} 0 1 = cc in omega arith)
 
   -- ---- conditions
 
-  whole : sheet.SheetIs s
-  whole = sheet-is s .0 (five-steps s ok .sheet)
+  blocks : InOrder s
+  blocks = in-order s (five-steps s ok .sheet)
 
   module _ (k : ℕ) (h : k < condCount s) where
     abbrev block : ℕ
@@ -77,10 +79,10 @@ module _ (s : List ℕ) (ok : Accepted s) where
     at-block = rw (lt-ltb k (condCount s) h)
 
     there : block < blockCount s
-    there = omega (arith, whole .no-others)
+    there = omega (arith, blocks .no-others)
 
     is-entry : isEntry (blockAt s block) ≡ true
-    is-entry = eq-eqb _ kindC (whole .c-last block (omega arith) there)
+    is-entry = eq-eqb _ kindC (blocks .c-last block (omega arith) there)
 
     entry : Entry s block
     entry = conditions-are s .0 (five-steps s ok .conds) .entries block there is-entry

@@ -1,4 +1,5 @@
 pub mod Steps
+pub mod AcceptedIs
 pub mod Unchecked
 pub mod Given
 pub mod Within

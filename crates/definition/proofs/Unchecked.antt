@@ -12,7 +12,7 @@ use Rattle.bits.specs.declared.BitPos.{BitPos}
 use Rattle.bits.specs.Positions.{globalOf}
 use Rattle.bits.proofs.Positions.{position-one}
 use Rattle.sheet.specs.Blocks.{fieldCount}
-use Rattle.sheet.proofs.SheetIs.{sheet-is}
+use Rattle.sheet.proofs.SheetIs.{in-order}
 use Rattle.field.specs.declared.Field.{Field}
 use Rattle.field_blocks.specs.Step.{fieldAt}
 use Rattle.header.specs.declared.FieldStart.{FieldStart}
@@ -50,7 +50,7 @@ module _ (s : List ℕ) (i : ℕ) {n : FieldStart} where
 module _ (s : List ℕ) (i : ℕ) where
   pub field-given : Accepted s → i < fieldCount s → _≡_ {A = Option (Field × ℕ)} (fieldWithStart s i) (some (fieldAt s i, startAt s i))
   unfolding fieldWithStart
-  field-given ok h = rw (lt-ltb i 64 (omega (arith, sheet-is s .0 (five-steps s ok .sheet) .most-fields)), lt-ltb i (fieldCount s) h)
+  field-given ok h = rw (lt-ltb i 64 (omega (arith, in-order s (five-steps s ok .sheet) .most-fields)), lt-ltb i (fieldCount s) h)
 
   pub no-field : fieldCount s ≤ i → fieldWithStart s i ≡ none
   unfolding fieldWithStart

@@ -1,2 +1,3 @@
 pub mod Definition
+pub mod AcceptedIs
 pub mod Unchecked

@@ -1,7 +1,7 @@
 -- The way back is exact: each step is undone by its own, and two steps by theirs in the other order. Beside it the cases of the single steps, as the
 -- program meets them, and one answer. Assumes nothing.
 use mathlib.Core.Path.{_≡_, refl, ap, sym, _∙_}
-use mathlib.Core.Bool.{Bool, true, false, cond, not}
+use mathlib.Core.Bool.{Bool, true, not}
 use mathlib.Core.Logic.{_↔_}
 use mathlib.Core.Option.{Option, none, some, Option·some-injective}
 use Prim.Native.Nat.{ℕ, _+_, _-_, _*_, _/_, _%_, _^_, _≤_, _<_}
@@ -9,6 +9,7 @@ use native.Mathlib.Nat.{div-lt-iff-lt-mul, le-div-iff-mul-le, mul-mod-left, mul-
 use native.Mathlib.Omega.{arith}
 use lib.Dec.{eqb}
 use borrow.Author.Tests.{lt-ltb, le-ltb, eq-eqb, ne-eqb, ltb-true, ltb-false, eqb-true, eqb-false, not-true}
+use Rattle.answer.proofs.Walk.{if-is, else-is}
 use Rattle.expr.specs.declared.UsableAlgExpr.{UsableAlgExpr}
 use Rattle.expr.specs.declared.MaybeNumber.{MaybeNumber}
 use Rattle.expr.specs.declared.Length.{Length}
@@ -52,15 +53,6 @@ unfolding over
 over-even n m z h = simp (ne-eqb _ _ z, eq-eqb _ _ h)
 
 -- ---- steps undone
-
--- what is there only where a test holds, or only where it does not
-pub if-is : (test : Bool) (o : Option ℕ) (y : ℕ) → (cond test o none ≡ some y) ↔ ((test ≡ true) × (o ≡ some y))
-if-is true o y = (λ e. (refl, e), λ p. p .1)
-if-is false o y = (λ e. (cc, cc), λ p. cc)
-
-pub else-is : (test : Bool) (o : Option ℕ) (y : ℕ) → (cond test none o ≡ some y) ↔ ((test ≡ false) × (o ≡ some y))
-else-is true o y = (λ e. (cc, cc), λ p. cc)
-else-is false o y = (λ e. (refl, e), λ p. p .1)
 
 -- a number that fits, and nothing else, is what a step gives
 pub fits-is : (n y : ℕ) → (in64Bits n ≡ some y) ↔ ((n ≡ y) × (y < 2 ^ 64))

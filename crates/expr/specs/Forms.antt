@@ -63,6 +63,38 @@ back (UsableAlgExpr.SimpleMult m) y = over m y
 back (UsableAlgExpr.AddMult a m) y = over m y then less a
 back (UsableAlgExpr.MultAdd m a) y = less a y then over m
 
+-- ---- a form by its number (1 to 5), and its numbers in the order in which a sheet gives them; 0 for one that it lacks
+
+abbrev pub formNumber : UsableAlgExpr → ℕ
+formNumber UsableAlgExpr.IdentOnly = 1
+formNumber (UsableAlgExpr.SimpleAdd a) = 2
+formNumber (UsableAlgExpr.SimpleMult m) = 3
+formNumber (UsableAlgExpr.AddMult a m) = 4
+formNumber (UsableAlgExpr.MultAdd m a) = 5
+
+abbrev pub firstIn : UsableAlgExpr → ℕ
+firstIn UsableAlgExpr.IdentOnly = 0
+firstIn (UsableAlgExpr.SimpleAdd a) = a
+firstIn (UsableAlgExpr.SimpleMult m) = m
+firstIn (UsableAlgExpr.AddMult a m) = a
+firstIn (UsableAlgExpr.MultAdd m a) = m
+
+abbrev pub secondIn : UsableAlgExpr → ℕ
+secondIn UsableAlgExpr.IdentOnly = 0
+secondIn (UsableAlgExpr.SimpleAdd a) = 0
+secondIn (UsableAlgExpr.SimpleMult m) = 0
+secondIn (UsableAlgExpr.AddMult a m) = m
+secondIn (UsableAlgExpr.MultAdd m a) = a
+
+-- the form of a number, with two numbers in that order; any other number is none
+unfoldable pub formOf : ℕ → ℕ → ℕ → Option UsableAlgExpr
+formOf number first second =
+    cond (eqb number 1) (some UsableAlgExpr.IdentOnly)
+    (cond (eqb number 2) (some (UsableAlgExpr.SimpleAdd first))
+    (cond (eqb number 3) (some (UsableAlgExpr.SimpleMult first))
+    (cond (eqb number 4) (some (UsableAlgExpr.AddMult first second))
+    (cond (eqb number 5) (some (UsableAlgExpr.MultAdd first second)) none))))
+
 -- ---- what the program's answers say
 
 abbrev pub maybeNumberSays : MaybeNumber → Option ℕ

@@ -1,2 +1,3 @@
 pub mod Inferred
+pub mod FieldIs
 pub mod Sound

@@ -36,7 +36,7 @@ abbrev pub argOf : BuiltinTypes → DefinedArg → Arg
 argOf repr DefinedArg.Absent = Arg.BuiltinTypes repr
 argOf repr (DefinedArg.Given a) = a
 
--- of bytes those that are stated, and zeros after them: of an absent default none are stated
+-- of bytes all are stated or none, and then they are zeros: of an absent default none are stated
 abbrev pub noBytes : Span
 noBytes = record { at = 0; len = 0 }
 

@@ -1,1 +1,3 @@
 pub mod SoundFields
+pub mod FieldsAre
+pub mod ItemsRead

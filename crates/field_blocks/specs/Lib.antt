@@ -1,2 +1,4 @@
 pub mod OnBlock
 pub mod Step
+pub mod FieldsAre
+pub mod ItemsRead

@@ -16,18 +16,25 @@ use Rattle.field.specs.declared.Field.{Field}
 use Rattle.field.specs.Fields.{fieldCheck, fieldOf, newField}
 
 -- repr: 0 absent, else the type's code
+abbrev pub reprOfCode : ℕ → DefinedRepr
+reprOfCode c = cond (eqb c 0) DefinedRepr.Absent (DefinedRepr.Given (typeOfCode c))
+
 abbrev pub reprIn : List ℕ → DefinedRepr
-reprIn b = cond (eqb (statedRepr b) 0) DefinedRepr.Absent (DefinedRepr.Given (typeOfCode (statedRepr b)))
+reprIn b = reprOfCode (statedRepr b)
 
 -- arg: the same codes, and 7 code
+abbrev pub argOfCode : ℕ → DefinedArg
+argOfCode c = cond (eqb c 0) DefinedArg.Absent (cond (eqb c 7) (DefinedArg.Given Arg.Code) (DefinedArg.Given (Arg.BuiltinTypes (typeOfCode c))))
+
 abbrev pub argIn : List ℕ → DefinedArg
-argIn b =
-    cond (eqb (statedArg b) 0) DefinedArg.Absent
-    (cond (eqb (statedArg b) 7) (DefinedArg.Given Arg.Code) (DefinedArg.Given (Arg.BuiltinTypes (typeOfCode (statedArg b)))))
+argIn b = argOfCode (statedArg b)
 
 -- gen: 0 absent, 1 false, 2 true
+abbrev pub genOfCode : ℕ → DefinedGen
+genOfCode c = cond (eqb c 0) DefinedGen.Absent (DefinedGen.Given (eqb c 2))
+
 abbrev pub genIn : List ℕ → DefinedGen
-genIn b = cond (eqb (statedGen b) 0) DefinedGen.Absent (DefinedGen.Given (eqb (statedGen b) 2))
+genIn b = genOfCode (statedGen b)
 
 -- default kind: 0 absent, 1 number, 2 bytes, 3 bool; bytes are told by where they stand
 abbrev pub valueIn : List ℕ → DefaultVal

@@ -1,3 +1,4 @@
 pub mod Fields
+pub mod Exactly
 pub mod Demand
 pub mod Entries

@@ -2,7 +2,7 @@
 -- speaks of RFC 791's bits (`bit`), of the sheet, and of what the contracts of `template` and `access` promise: `TemplateBuilt`, `sheetRead`,
 -- `sheetWriteCheck` and `sheetApply`. `proofs/Demand.antt` shows it of every accepted sheet. Assumes nothing.
 use mathlib.Core.Path.{_≡_}
-use mathlib.Core.Bool.{Bool, not, _&&_}
+use mathlib.Core.Bool.{Bool, true, false, not, _&&_}
 use mathlib.Core.List.{List}
 use mathlib.Core.Logic.{_↔_}
 use Prim.Native.Nat.{ℕ, suc, _+_, _-_, _*_, _/_, _%_, _^_, _≤_, _<_}
@@ -33,6 +33,9 @@ pub record Started (s b b' : List ℕ) : Type 0 where
   pub rest : (k : ℕ) → 8 * headerBytes s ≤ k → bit b' k ≡ bit b k
 
 pub record SheetDemand (s : List ℕ) : Type 0 where
+  -- the first field starts at bit 0, and each other where the one before it ends
+  pub first-start : 0 < fieldCount s → startAt s 0 ≡ 0
+  pub next-start : (i : ℕ) → suc i < fieldCount s → startAt s (suc i) ≡ startAt s i + widthAt s i
   -- each header bit belongs to one field, and a field has no other bits
   pub one-field : (k : ℕ) → k < 8 * headerBytes s → (i : ℕ) × OfField s i k × ((j : ℕ) → OfField s j k → j ≡ i)
   pub in-header : (i k : ℕ) → OfField s i k → k < 8 * headerBytes s
@@ -55,8 +58,15 @@ pub record SheetDemand (s : List ℕ) : Type 0 where
   pub no-other : (b : List ℕ) (w : Write) (k : ℕ) → (OfField s (w .index) k → ⊥) → bit (sheetApply s b w) k ≡ bit b k
   -- a refused write changes nothing
   pub refused-write : (b : List ℕ) (w : Write) → (SheetWriteAccepted s b w → ⊥) → sheetApply s b w ≡ b
-  -- a read gives the field's bits, and writing what was read changes nothing: it is accepted, unless the field is fixed and holds another value
+  -- a read gives the field's bits: a number whose digits they are, the most significant first, or as many bytes as they are, bit by bit
   pub read-holds : (b : List ℕ) (asBytes : Bool) (i : ℕ) (v : Value) → sheetRead s b asBytes i ≡ gives v → spells v ≡ holds s b i
+  pub number-read : (b : List ℕ) (i v : ℕ) → sheetRead s b false i ≡ gives (number v)
+      → (j : ℕ) → j < widthAt s i → bit b (startAt s i + j) ≡ v / 2 ^ (widthAt s i - suc j) % 2
+  pub bytes-read : (b : List ℕ) (i : ℕ) (l : List ℕ) → sheetRead s b true i ≡ gives (bytes l)
+      → (8 * length l ≡ widthAt s i) × ((j : ℕ) → j < widthAt s i → bit l j ≡ bit b (startAt s i + j))
+  -- writing what a field's bits spell changes nothing
+  pub write-same : (b : List ℕ) (w : Write) → AreBytes b → spells (w .value) ≡ holds s b (w .index) → sheetApply s b w ≡ b
+  -- and so writing what was read; it is accepted, unless the field is fixed and holds another value
   pub write-read : (b : List ℕ) (asBytes : Bool) (i : ℕ) (v : Value) → AreBytes b → sheetRead s b asBytes i ≡ gives v → sheetApply s b (write i v) ≡ b
   pub write-read-answer : (b : List ℕ) (asBytes : Bool) (i : ℕ) (v : Value) → sheetRead s b asBytes i ≡ gives v
       → sheetWriteCheck s (length b) (write i v) ≡ refuse (fixedAt s i && not (eqb (holds s b i) (defaultAt s i))) Group.Access 5 i

@@ -1,2 +1,4 @@
 pub mod Fields
 pub mod Demand
+pub mod Exactly
+pub mod Entries

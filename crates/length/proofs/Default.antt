@@ -4,7 +4,7 @@ use mathlib.Core.Path.{_≡_, refl}
 use mathlib.Core.Bool.{Bool, true, false, cond, and-false}
 use mathlib.Core.List.{List}
 use mathlib.Core.Option.{Option, none, some}
-use Prim.Native.Nat.{ℕ, zero, suc, _-_, _^_, _≤_, _<_}
+use Prim.Native.Nat.{ℕ, zero, suc, _-_, _^_}
 use native.Mathlib.Omega.{arith}
 use lib.Dec.{eqb}
 use Rattle.answer.specs.declared.Group.{Group}
@@ -13,7 +13,6 @@ use Rattle.answer.proofs.Chains.{both-is, refuse-is}
 use Rattle.answer.proofs.Tests.{clash}
 use Rattle.answer.specs.Walk.{isSome}
 use Rattle.answer.proofs.Walk.{where-found}
-use Rattle.number.specs.Numbers.{maxValue}
 use Rattle.sheet.specs.Blocks.{fieldCount}
 use Rattle.field.specs.declared.DefaultVal.{DefaultVal}
 use Rattle.field.specs.declared.Field.{Field}
@@ -23,28 +22,22 @@ use Rattle.field_blocks.proofs.SoundFields.{field-sound}
 use Rattle.header.specs.Names.{nameAt, fieldNamed}
 use Rattle.expr.specs.declared.UsableAlgExpr.{UsableAlgExpr}
 use Rattle.expr.specs.Forms.{_then_, forward}
-use Rattle.expr.proofs.WayBack.{else-is, then-is}
 use Rattle.expr.proofs.Growth.{forward-grows}
 use Rattle.slots.specs.declared.LengthField.{LengthField}
-use Rattle.length.proofs.LengthsAre.{arg-is}
+use Rattle.length.proofs.LengthsAre.{arg-is, largest-is}
 use Rattle.length.specs.Named.{fieldHere}
 use Rattle.length.specs.Step.{largest, numberDefault, ofDefault, argNotTheRepr, lengthFieldFault, lengthFault, exprFault, heldFault, lengthCheck}
 
 -- ---- the default's length
 
--- what fits a width is at most its largest value
-within : (w v n : ℕ) → maxValue w ≡ some v → n < 2 ^ w → n ≤ v
-unfolding maxValue
-within w v n e l = let p = simp else-is at e in let same : 2 ^ w - 1 ≡ v = cc in omega arith
-
--- so where there is a largest length there is the default's
+-- where there is a largest length there is the default's
 default-length : (e : UsableAlgExpr) (f : Field) → Sound f → argNotTheRepr (f .repr) (f .arg) ≡ false → (most : ℕ) → largest e f ≡ some most → isSome (ofDefault e f) ≡ true
 default-length e f sound good most q = by-kind (f .default) refl
   where
     by-kind : (d : DefaultVal) → f .default ≡ d → isSome (numberDefault d then forward e) ≡ true
     by-kind (DefaultVal.Num n) d =
-        let top = then-is (maxValue (widthOf f)) (forward e) most .0 q in
-        rw (forward-grows e n (top .0) most (within (widthOf f) (top .0) n (top .1) (sound .number-fits n d)) (top .2) .1)
+        let top = largest-is e f most .0 q in
+        rw (forward-grows e n (2 ^ widthOf f - 1) most (omega (arith, sound .number-fits n d)) (top .2) .1)
     by-kind (DefaultVal.Bool b) d = absurd (sound .no-bool-default b d)
     by-kind (DefaultVal.Bytes span) d = absurd (arg-is (f .repr) (f .arg) .0 good .1 (sound .bytes-field span d))
 

@@ -4,24 +4,32 @@ use mathlib.Core.Path.{_≡_, refl, sym, ap}
 use mathlib.Core.Bool.{true, false}
 use mathlib.Core.List.{List}
 use mathlib.Core.Logic.{_↔_}
-use mathlib.Core.Option.{Option, none, some}
-use Prim.Native.Nat.{ℕ, _≤_, _<_}
+use mathlib.Core.Option.{Option, none, some, Option·none-ne-some}
+use Prim.Native.Nat.{ℕ, _-_, _^_, _≤_, _<_}
 use native.Mathlib.Omega.{arith}
+use borrow.Author.Tests.{eqb-false}
 use Rattle.answer.specs.Paper.{Check, accepted, _andThen_, first}
 use Rattle.answer.proofs.Chains.{andThen-assoc, both-is, refuse-is, never-given, each-is}
-use Rattle.answer.proofs.Tests.{clash, fails-is, unless-is, neither-is, not-is, eqb-is, ltb-is-not}
+use Rattle.answer.proofs.Tests.{clash, fails-is, and-is, unless-is, neither-is, not-is, eqb-is, ltb-is-not}
 use Rattle.answer.specs.Walk.{isSome, orZero}
-use Rattle.number.specs.Numbers.{maxBytes}
+use Rattle.answer.proofs.Walk.{else-is, there-is, any-is}
+use Rattle.number.specs.Numbers.{maxBytes, maxValue}
+use Rattle.number.proofs.Limits.{max-is}
 use Rattle.sheet.specs.Blocks.{blockAt}
 use Rattle.types.specs.declared.BuiltinTypes.{BuiltinTypes}
 use Rattle.types.specs.declared.Arg.{Arg}
 use Rattle.types.specs.Types.{typeCode}
 use Rattle.types.proofs.CodesAndNames.{code-one, slice-is}
+use Rattle.field.specs.declared.DefaultVal.{DefaultVal}
 use Rattle.field.specs.declared.Field.{Field}
+use Rattle.field.specs.Sound.{widthOf}
 use Rattle.expr.specs.declared.UsableAlgExpr.{UsableAlgExpr}
+use Rattle.expr.specs.Forms.{_then_, forward}
+use Rattle.expr.proofs.WayBack.{then-is}
 use Rattle.slots.specs.Slots.{exprIn, held, heldBy, blockOfSlot, noForm}
+use Rattle.slots.proofs.Expresses.{tree-expresses, expresses-is}
 use Rattle.length.specs.Named.{fieldOfBlock}
-use Rattle.length.specs.Step.{largest, ofDefault, argNotTheRepr, isOver, isUnder, lengthFieldFault, lengthFault, exprFault, heldFault, slotCheck, lengthCheck}
+use Rattle.length.specs.Step.{largest, numberDefault, ofDefault, argNotTheRepr, isOver, isUnder, lengthFieldFault, lengthFault, exprFault, heldFault, slotCheck, lengthCheck}
 use Rattle.length.specs.LengthsAre.{Serves, LengthsAre}
 
 -- ---- single tests
@@ -42,17 +50,6 @@ form-is : (o : Option UsableAlgExpr) → (noForm o ≡ false) ↔ ((e : UsableAl
 form-is (some e) = (λ _. (e, refl), λ _. refl)
 form-is none = (λ e. clash e, λ p. cc)
 
-module _ {A : Type 0} (X : Option A → Type 0) (P : A → Type 0) (is : (a : A) → X (some a) ↔ P a) where
-  -- what does not hold of nothing holds exactly where there is something of which it holds
-  there-is : (X none → ⊥) → (o : Option A) → X o ↔ ((a : A) × (o ≡ some a) × P a)
-  there-is not-none (some a) = (λ x. (a, refl, is a .0 x), λ p. let same : a ≡ p .0 = cc in is a .1 (rw same (p .2)))
-  there-is not-none none = (λ x. absurd (not-none x), λ p. absurd (let z : _≡_ {A = ℕ} 0 1 = cc in omega arith))
-
-  -- and what holds of nothing, exactly where it holds of what there is
-  any-is : X none → (o : Option A) → X o ↔ ((a : A) → o ≡ some a → P a)
-  any-is of-none (some a) = (λ x b q. let same : b ≡ a = cc in rw same (is a .0 x), λ h. is a .1 (h a refl))
-  any-is of-none none = (λ x b q. absurd (let z : _≡_ {A = ℕ} 0 1 = cc in omega arith), λ _. of-none)
-
 -- length 8 and 9: a length that can be worked out, and is not over; 13 and 10: one that is not under
 over-is : (o : Option ℕ) (most : ℕ) → ((isSome o ≡ true) × (isOver o most ≡ false)) ↔ ((n : ℕ) × (o ≡ some n) × (n ≤ most))
 over-is o most =
@@ -62,6 +59,33 @@ under-is : (o : Option ℕ) (least : ℕ) → ((isSome o ≡ true) × (isUnder o
 under-is o least =
     there-is (λ l. (isSome l ≡ true) × (isUnder l least ≡ false)) (λ n. least ≤ n) (λ n. simp ltb-is-not (λ p. p .1, λ h. (refl, h))) (λ p. clash (sym (p .0))) o
 
+-- the largest value is 2 ^ width - 1, of a width of 1 to 64
+pub largest-is : (e : UsableAlgExpr) (f : Field) (most : ℕ) → (largest e f ≡ some most)
+    ↔ ((1 ≤ widthOf f) × (widthOf f ≤ 64) × (forward e (2 ^ widthOf f - 1) ≡ some most))
+unfolding maxValue
+largest-is e f most = (
+  λ q.
+      let top = then-is (maxValue (widthOf f)) (forward e) most .0 q in
+      let fits = simp (else-is, neither-is, ltb-is-not) at (top .1) in
+      let same : 2 ^ widthOf f - 1 ≡ top .0 = let value = fits .1 in cc in
+      (omega (arith, eqb-false (widthOf f) 0 (fits .0 .0)), fits .0 .1, rw same (top .2)),
+  λ p. rw (max-is (widthOf f) (λ z. omega arith) (p .1)) (p .2),
+)
+
+-- and the default is a number
+default-is : (e : UsableAlgExpr) (d : DefaultVal) (usual : ℕ) → ((numberDefault d then forward e) ≡ some usual) ↔ ((x : ℕ) × (d ≡ DefaultVal.Num x) × (forward e x ≡ some usual))
+default-is e (DefaultVal.Num x) usual = (λ q. (x, refl, q), λ p. let same : x ≡ p .0 = cc in rw same (p .2))
+default-is e (DefaultVal.Bool b) usual = (λ q. absurd (Option·none-ne-some usual q), λ p. cc)
+default-is e (DefaultVal.Bytes s) usual = (λ q. absurd (Option·none-ne-some usual q), λ p. cc)
+
+enough-is : (e : UsableAlgExpr) (f : Field) (least : ℕ) → ((isSome (ofDefault e f) ≡ true) × (isUnder (ofDefault e f) least ≡ false))
+    ↔ ((x usual : ℕ) × (f .default ≡ DefaultVal.Num x) × (forward e x ≡ some usual) × (least ≤ usual))
+enough-is e f least =
+    let under = under-is (ofDefault e f) least in (
+      λ p. let u = under .0 p in let d = default-is e (f .default) (u .0) .0 (u .1) in (d .0, u .0, d .1, d .2, u .2),
+      λ q. under .1 (q .1, default-is e (f .default) (q .1) .1 (q .0, q .2, q .3), q .4),
+    )
+
 -- ---- a field and its slot
 
 module _ (header slot : ℕ) where
@@ -70,23 +94,25 @@ module _ (header slot : ℕ) where
   unfolding lengthFieldFault lengthFault
   serves-is at e f =
       let top = over-is (largest e f) maxBytes in
-      let usual = under-is (ofDefault e f) header in
+      let usual = enough-is e f header in
       simp (both-is, refuse-is, ltb-is-not, arg-is, unless-is, not-is, eqb-is) (
         λ p.
             let most = top .0 (p .1 .0, p .1 .1 .0) in
+            let longest = largest-is e f (most .0) .0 (most .1) in
             record {
-              narrow = p .0 .0;
+              some-bits = longest .0;
+              narrow = longest .1;
               not-generated = p .0 .1 .0;
               same-type = p .0 .1 .1 .0 .0;
               no-slice = p .0 .1 .1 .0 .1;
               fixed-header = p .0 .1 .1 .1;
               most = most .0;
-              most-is = most .1;
+              most-is = longest .2;
               most-allowed = most .2;
               enough = λ z. usual .0 (p .1 .1 .1 .0 z, p .1 .1 .1 .1 z);
             },
         λ u.
-            let most = top .1 (u .most, u .most-is, u .most-allowed) in (
+            let most = top .1 (u .most, largest-is e f (u .most) .1 (u .some-bits, u .narrow, u .most-is), u .most-allowed) in (
               (u .narrow, (u .not-generated, ((u .same-type, u .no-slice), u .fixed-header))),
               (most .0, (most .1, (λ z. usual .1 (u .enough z) .0, λ z. usual .1 (u .enough z) .1))),
             ),
@@ -112,7 +138,19 @@ three-are f = rw (← (andThen-assoc (f 0) (f 1) (f 2))) (each-is f 3)
 
 pub lengths-are : (s : List ℕ) (header : ℕ) → (lengthCheck s header ≡ accepted) ↔ LengthsAre s header
 unfolding lengthCheck
-lengths-are s header = simp (three-are (slotCheck s header), both-is, refuse-is, each-is, unless-is, form-is, fails-is (isSome (blockOfSlot s 2)), some-is, slot-is) (
-  λ p. record { forms = p .0; one-of-two = λ i j q r. p .1 .0 (i, q) (j, r); used = λ slot at h. p .1 .1 slot h at },
-  λ l. (l .forms, (λ q r. l .one-of-two (q .0) (r .0) (q .1) (r .1), λ slot h at. l .used slot at h)),
-)
+lengths-are s header =
+    simp (three-are (slotCheck s header), both-is, refuse-is, each-is, unless-is, and-is, eqb-is, form-is, fails-is (isSome (blockOfSlot s 2)), some-is, slot-is) (
+      λ p.
+          record {
+            forms = λ i l kind six.
+                let x = p .0 i l (kind, six) in
+                let f = tree-expresses (blockAt s i) (x .0) six .0 (x .1) in
+                (f .0, x .0, f .1, f .2);
+            one-of-two = λ i j q r. p .1 .0 (i, q) (j, r);
+            used = λ slot at h q e x. p .1 .1 slot h at q e (expresses-is (blockAt s at) e .1 x);
+          },
+      λ l. (
+        λ i h tree. let f = l .forms i h (tree .0) (tree .1) in (f .1, tree-expresses (blockAt s i) (f .1) (tree .1) .1 (f .0, f .2, f .3)),
+        (λ q r. l .one-of-two (q .0) (r .0) (q .1) (r .1), λ slot h at q e x. l .used slot at h q e (expresses-is (blockAt s at) e .0 x)),
+      ),
+    )

@@ -19,8 +19,8 @@ use Rattle.answer.specs.Walk.{orZero}
 use Rattle.blocks.specs.Layout.{nameOf, rangeCount}
 use Rattle.blocks.proofs.Told.{name-short, few-ranges}
 use Rattle.sheet.specs.Blocks.{blockCount, blockAt, fieldCount, condCount}
-use Rattle.sheet.specs.SheetIs as sheet
-use Rattle.sheet.proofs.SheetIs.{sheet-is}
+use Rattle.sheet.specs.SheetIs.{InOrder}
+use Rattle.sheet.proofs.SheetIs.{in-order, laid-out}
 use Rattle.field_blocks.specs.Step.{fieldAt}
 use Rattle.layout.specs.Layout.{template}
 use Rattle.header.specs.Names.{nameAt, fieldNamed}
@@ -91,8 +91,8 @@ module _ (s : List ℕ) (ok : Accepted s) where
   steps : FiveSteps s
   steps = five-steps s ok
 
-  whole : sheet.SheetIs s
-  whole = sheet-is s .0 (steps .sheet)
+  blocks : InOrder s
+  blocks = in-order s (steps .sheet)
 
   -- the name in any block; past the last there is none
   names-short : (i : ℕ) → length (nameAt s i) ≤ 64
@@ -100,7 +100,7 @@ module _ (s : List ℕ) (ok : Accepted s) where
   names-short i = by-place (decLt i (blockCount s))
     where
       by-place : Dec (i < blockCount s) → length (nameAt s i) ≤ 64
-      by-place (yes l) = name-short (blockAt s i) (whole .laid-out i l)
+      by-place (yes l) = name-short (blockAt s i) (laid-out s (steps .sheet) i l)
       by-place (no l) = rw (le-ltb i (blockCount s) (omega arith)) (omega arith)
 
   field-text-length : (i : ℕ) → i < fieldCount s → length (fieldText s i) ≤ 182
@@ -108,7 +108,7 @@ module _ (s : List ℕ) (ok : Accepted s) where
       let inside = field-inside s i h in
       let size = whole-bytes s ok in
       let few = few-bytes s ok in
-      field-length i (startAt s i) (fieldAt s i) (nameAt s i) (omega (arith, whole .most-fields)) (omega arith) (omega arith) (names-short i)
+      field-length i (startAt s i) (fieldAt s i) (nameAt s i) (omega (arith, blocks .most-fields)) (omega arith) (omega arith) (names-short i)
 
   slot-text-length : (slot : ℕ) → slot < 3 → length (slotText s slot) ≤ 105
   slot-text-length slot h =
@@ -118,8 +118,8 @@ module _ (s : List ℕ) (ok : Accepted s) where
   cond-text-length : (i : ℕ) → firstCond s ≤ i → i < firstCond s + condCount s → length (condText s i) ≤ 1078
   unfolding condText
   cond-text-length i l h =
-      let there : i < blockCount s = omega (arith, whole .no-others) in
-      let few = few-ranges (blockAt s i) (whole .c-last i l there) (whole .laid-out i there) in
+      let there : i < blockCount s = omega (arith, blocks .no-others) in
+      let few = few-ranges (blockAt s i) (blocks .c-last i l there) (laid-out s (steps .sheet) i there) in
       simp (line-length, spaced-length) (omega (arith, names-short i, ranges-length s i 0 (rangeCount (blockAt s i))))
 
   listing-length : headerBytes s ≤ 8192 → length (listing s) ≤ 40000
@@ -130,7 +130,7 @@ module _ (s : List ℕ) (ok : Accepted s) where
         arith,
         header-length (headerBytes s) (omega arith),
         texts-length (fieldText s) 182 0 (fieldCount s) (λ i _ l. field-text-length i l),
-        whole .most-fields,
+        blocks .most-fields,
         template-length (template (headerLayout s)),
         template-bytes s ok,
         slot-text-length 0 (omega arith),

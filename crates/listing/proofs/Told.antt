@@ -12,7 +12,7 @@ use Rattle.answer.proofs.Chains.{given, never-given}
 use Rattle.octets.specs.Octets.{AreBytes}
 use Rattle.sheet.specs.declared.Counts.{Counts}
 use Rattle.sheet.specs.Blocks.{blockCount, countsOf}
-use Rattle.sheet.proofs.SheetIs.{sheet-is}
+use Rattle.sheet.proofs.SheetIs.{in-order}
 use Rattle.layout.specs.Layout.{bits, template}
 use Rattle.layout.proofs.Filled.{template-only, template-size, template-in}
 use Rattle.header.specs.declared.Header.{Header}
@@ -45,8 +45,8 @@ module _ (s : List ℕ) where
 
   pub counts-small : {n : Counts} → Accepted s → n ≡ countsOf s (blockCount s) → (n .fields ≤ 64) × (n .lengths ≤ 3) × (n .conds ≤ 32)
   counts-small ok is =
-      let whole = sheet-is s .0 (five-steps s ok .sheet) in
-      rw is (whole .most-fields, whole .most-lengths, whole .most-conds)
+      let blocks = in-order s (five-steps s ok .sheet) in
+      rw is (blocks .most-fields, blocks .most-lengths, blocks .most-conds)
 
   -- ---- the text, by the answer to the template
 

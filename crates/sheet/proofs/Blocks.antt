@@ -1,4 +1,4 @@
--- Laws of the blocks of a sheet: how long one is, and the counts of kinds, block by block. Assumes nothing.
+-- Laws of the blocks of a sheet: how long one is, that it is bytes, and the counts of kinds, block by block. Assumes nothing.
 use mathlib.Core.Path.{_≡_, refl, _∙_}
 use mathlib.Core.Bool.{Bool, true, false, cond}
 use mathlib.Core.List.{List}
@@ -6,11 +6,13 @@ use Prim.Native.Nat.{ℕ, zero, suc, _+_, _*_, _≤_, _<_}
 use native.Mathlib.Numerals.{add-one}
 use native.Mathlib.Omega.{arith}
 use lib.Dec.{lit≤}
-use lib.ListN.{length}
+use lib.ListN.{length, take}
 use lib.Seq.{length-slice}
 use borrow.Author.Tests.{lt-ltb}
 use Rattle.sheet.specs.declared.Counts.{Counts}
 use Rattle.sheet.specs.declared.SlotBlock.{SlotBlock}
+use Rattle.octets.specs.Octets.{AreBytes}
+use Rattle.octets.proofs.Octets.{bytes-take, bytes-drop}
 use Rattle.blocks.specs.Layout.{blockSize, kindOf, isF, isL, isC}
 use Rattle.sheet.specs.Blocks.{blockCount, blockAt, count, countsOf, slotBlockSays}
 use Rattle.sheet.specs.Working.{counted}
@@ -19,6 +21,12 @@ use Rattle.sheet.specs.Working.{counted}
 pub block-long : (s : List ℕ) (i : ℕ) → i < blockCount s → length (blockAt s i) ≡ blockSize
 unfolding blockAt
 block-long s i h = rw (lt-ltb i (blockCount s) h) (length-slice (blockSize * i) (blockSize * i + blockSize) s (omega arith) ∙ omega arith)
+
+-- and of a sheet of bytes it is bytes
+pub block-bytes : (s : List ℕ) → AreBytes s → (i : ℕ) → i < blockCount s → AreBytes (blockAt s i)
+unfolding blockAt
+block-bytes s bytes i h =
+    rw (lt-ltb i (blockCount s) h) (bytes-drop (blockSize * i) (take (blockSize * i + blockSize) s) (bytes-take (blockSize * i + blockSize) s bytes))
 
 -- one more or none
 one-le : (test : Bool) → cond test 1 0 ≤ 1

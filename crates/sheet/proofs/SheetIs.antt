@@ -1,5 +1,6 @@
 -- Step 1 accepts exactly the sheets of `SheetIs`: `sheet-is`. Each test is said exactly; an induction over the blocks gives their order, and the order
--- gives the counts that the tests see. Assumes nothing.
+-- gives the counts that the tests see. Two laws of an accepted sheet do not ask that its elements are bytes: `in-order`, and `laid-out` of each block.
+-- Assumes nothing.
 use mathlib.Core.Path.{_≡_, refl, ap}
 use mathlib.Core.Bool.{Bool, true, false, cond, _||_}
 use mathlib.Core.List.{List}
@@ -8,18 +9,25 @@ use Prim.Native.Nat.{ℕ, zero, suc, _+_, _*_, _≤_, _<_}
 use native.Mathlib.Nat.{eq-or-lt-of-le, lt-of-not-le}
 use native.Mathlib.Decide.{decLt}
 use native.Mathlib.Omega.{arith}
-use lib.ListN.{length}
+use lib.ListN.{length, take}
 use borrow.Author.Tests.{eqb-true}
 use Rattle.answer.specs.Paper.{accepted}
 use Rattle.answer.proofs.Chains.{both-is, refuse-is, each-is}
 use Rattle.answer.proofs.Tests.{one-or-other, and-is, unless-is, neither-is, not-is, eqb-is, ltb-is-not, leb-is-not}
 use Rattle.answer.proofs.Walk.{nowhere-is}
-use Rattle.blocks.specs.Layout.{blockSize, kindF, kindL, kindC, isF, isL, isC, statedSlot, layoutHolds}
+use Rattle.octets.specs.Octets.{AreBytes}
+use Rattle.blocks.specs.Layout.{blockSize, checkAt, kindF, kindL, kindC, isF, isL, isC, statedSlot, layoutHolds}
+use Rattle.blocks.specs.Ones.{words, onesSum}
 use Rattle.blocks.specs.Check.{checkHolds}
+use Rattle.blocks.proofs.Folding.{check-block}
 use Rattle.blocks.proofs.Told.{slot-le}
+use Rattle.stated.specs.Items.{Item, WellFormed}
+use Rattle.stated.specs.Stated.{stated}
+use Rattle.stated.proofs.Laws.{layout-is}
 use Rattle.sheet.specs.Blocks.{blockCount, blockAt, kindAt, count, fieldCount, lengthCount}
 use Rattle.sheet.specs.Sheet.{wrongLength, slotBefore, blockFault, sheetCheck}
-use Rattle.sheet.specs.SheetIs.{SheetIs}
+use Rattle.sheet.specs.SheetIs.{InOrder, SheetIs}
+use Rattle.sheet.proofs.Blocks.{block-long, block-bytes}
 
 -- ---- single tests
 
@@ -120,34 +128,34 @@ module _ (s : List ℕ) where
         few-c = p .few-c;
       }
 
--- ---- all of it
+-- ---- all of it: the order of the blocks, and that each is inside its layout
 
 module _ (s : List ℕ) (ok : sheetCheck s ≡ accepted) where
   parts : ((length s ≡ blockSize * blockCount s) × (blockCount s ≤ 99)) × ((i : ℕ) → i < blockCount s → Passed s i)
   unfolding sheetCheck
   parts = simp (both-is, refuse-is, sized-is, each-is, passed-is) at ok
 
-  in-order : Ordered s (blockCount s)
-  in-order = ordered s (blockCount s) (parts .1)
+  all-ordered : Ordered s (blockCount s)
+  all-ordered = ordered s (blockCount s) (parts .1)
 
   apart : (i j : ℕ) → i < j → j < blockCount s → kindAt s i ≡ kindL → kindAt s j ≡ kindL → statedSlot (blockAt s i) ≡ statedSlot (blockAt s j) → ⊥
   apart i j below h k e same = parts .1 j h .once e i below (k, same)
 
   -- L block k of them: its kind, and its slot
   an-l-block : (k : ℕ) → k < lengthCount s → kindAt s (fieldCount s + k) ≡ kindL
-  an-l-block k h = in-order .ls (fieldCount s + k) (omega arith) (omega arith)
+  an-l-block k h = all-ordered .ls (fieldCount s + k) (omega arith) (omega arith)
 
   slot : ℕ → ℕ
   slot k = statedSlot (blockAt s (fieldCount s + k))
 
   slot-small : (k : ℕ) → k < lengthCount s → slot k ≤ 2
   unfolding slot
-  slot-small k h = slot-le _ (an-l-block k h) (parts .1 (fieldCount s + k) (omega (arith, in-order .all)) .bytes)
+  slot-small k h = slot-le _ (an-l-block k h) (parts .1 (fieldCount s + k) (omega (arith, all-ordered .all)) .bytes)
 
   slots-apart : (j k : ℕ) → j < k → k < lengthCount s → slot j ≡ slot k → ⊥
   unfolding slot
   slots-apart j k below h same =
-      apart (fieldCount s + j) (fieldCount s + k) (omega arith) (omega (arith, in-order .all)) (an-l-block j (omega arith)) (an-l-block k h) same
+      apart (fieldCount s + j) (fieldCount s + k) (omega arith) (omega (arith, all-ordered .all)) (an-l-block j (omega arith)) (an-l-block k h) same
 
   few-slots : lengthCount s ≤ 3
   few-slots =
@@ -166,22 +174,23 @@ module _ (s : List ℕ) (ok : sheetCheck s ≡ accepted) where
       )) in
       omega arith
 
-  pub as-sheet : SheetIs s
-  as-sheet =
+  pub in-order : InOrder s
+  in-order =
       record {
         whole = parts .0 .0;
         most = parts .0 .1;
-        checked = λ i h. parts .1 i h .check;
-        laid-out = λ i h. parts .1 i h .bytes;
-        f-first = in-order .fs;
-        l-next = in-order .ls;
-        c-last = in-order .cs;
-        no-others = in-order .all;
-        most-fields = in-order .few-f;
+        f-first = all-ordered .fs;
+        l-next = all-ordered .ls;
+        c-last = all-ordered .cs;
+        no-others = all-ordered .all;
+        most-fields = all-ordered .few-f;
         most-lengths = few-slots;
-        most-conds = in-order .few-c;
+        most-conds = all-ordered .few-c;
         one-each = apart;
       }
+
+  pub laid-out : (i : ℕ) → i < blockCount s → layoutHolds (blockAt s i) ≡ true
+  laid-out i h = parts .1 i h .bytes
 
 -- ---- and back
 
@@ -198,7 +207,7 @@ module _ (s : List ℕ) where
   count-past isKind i (suc n) h e =
       ⊎-elim (λ q. rw (← q, e) (omega arith)) (λ l. omega (arith, count-past isKind i n l e)) (eq-or-lt-of-le {n = i} {m = n} (omega arith))
 
-module _ (s : List ℕ) (a : SheetIs s) where
+module _ (s : List ℕ) (a : InOrder s) where
   -- what stands before an F block and before an L block
   no-l-before : (i : ℕ) → i < fieldCount s → count isL s i ≡ 0
   no-l-before i h = count-nothing s isL i (λ j l. ap isL (a .f-first j (omega arith)))
@@ -222,18 +231,31 @@ module _ (s : List ℕ) (a : SheetIs s) where
           let kind = a .c-last i (omega arith) h in
           (rw kind, omega (arith, count-past s isC i (blockCount s) h (ap isC kind), a .most-conds))
 
-  sheet-passes : sheetCheck s ≡ accepted
-  unfolding sheetCheck
-  sheet-passes = simp (both-is, refuse-is, sized-is, each-is, passed-is) (
-    (a .whole, a .most),
-    λ i h. record {
-      check = a .checked i h;
-      known = turn i h .0;
-      turn = turn i h .1;
-      bytes = a .laid-out i h;
-      once = λ e j l p. a .one-each j i l h (p .0) e (p .1);
-    },
-  )
+module _ (s : List ℕ) (bytes : AreBytes s) where
+  -- the tests of a block, said of its words and of what it states
+  check-is : (i : ℕ) → i < blockCount s → (checkHolds (blockAt s i) ≡ true) ↔ (onesSum (words (blockAt s i)) ≡ 65535)
+  check-is i h = rw (check-block (blockAt s i) (block-long s i h)) (eqb-is _ 65535)
 
-pub sheet-is : (s : List ℕ) → (sheetCheck s ≡ accepted) ↔ SheetIs s
-sheet-is s = (as-sheet s, sheet-passes s)
+  states-is : (i : ℕ) → i < blockCount s → (layoutHolds (blockAt s i) ≡ true) ↔ ((d : Item) × WellFormed d × (take checkAt (blockAt s i) ≡ stated d))
+  states-is i h = layout-is (blockAt s i) (block-bytes s bytes i h) (block-long s i h)
+
+  sheet-passes : SheetIs s → sheetCheck s ≡ accepted
+  unfolding sheetCheck
+  sheet-passes a =
+      let o = a .in-order in
+      simp (both-is, refuse-is, sized-is, each-is, passed-is) (
+        (o .whole, o .most),
+        λ i h. record {
+          check = check-is i h .1 (a .checked i h);
+          known = turn s o i h .0;
+          turn = turn s o i h .1;
+          bytes = states-is i h .1 (a .laid-out i h);
+          once = λ e j l p. o .one-each j i l h (p .0) e (p .1);
+        },
+      )
+
+  pub sheet-is : (sheetCheck s ≡ accepted) ↔ SheetIs s
+  sheet-is = (
+    λ ok. record { in-order = in-order s ok; checked = λ i h. check-is i h .0 (parts s ok .1 i h .check); laid-out = λ i h. states-is i h .0 (laid-out s ok i h) },
+    sheet-passes,
+  )

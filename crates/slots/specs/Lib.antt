@@ -1,1 +1,3 @@
 pub mod Slots
+pub mod Expresses
+pub mod ExprRead

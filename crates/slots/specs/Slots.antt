@@ -9,6 +9,7 @@ use Rattle.blocks.specs.Layout.{kindOf, isL, statedForm, firstNumber, secondNum
 use Rattle.blocks.specs.Nodes.{nodeIn}
 use Rattle.sheet.specs.Blocks.{blockCount, blockAt, slotBlock}
 use Rattle.expr.specs.declared.UsableAlgExpr.{UsableAlgExpr}
+use Rattle.expr.specs.Forms.{formOf}
 use Rattle.tree.specs.Tree.{NodeTable, usable}
 use Rattle.slots.specs.declared.LengthField.{LengthField}
 
@@ -22,16 +23,10 @@ rootIn b = nodeCount b - 1
 abbrev pub treeIn : List ℕ → Option UsableAlgExpr
 treeIn b = usable (nodesIn b) (nodesIn b (rootIn b))
 
--- form 1 x, 2 x + a, 3 x * m, 4 (x + a) * m with a first, 5 x * m + a with m first, 6 a tree. Form 0, and a
--- tree that is none of these, is no expression
+-- form 6 is a tree; any other is a form by its number, with the two numbers of the block. Form 0, and a tree that is none of the forms, is no expression
 unfoldable pub exprIn : List ℕ → Option UsableAlgExpr
-exprIn b =
-    cond (eqb (statedForm b) 1) (some UsableAlgExpr.IdentOnly)
-    (cond (eqb (statedForm b) 2) (some (UsableAlgExpr.SimpleAdd (firstNumber b)))
-    (cond (eqb (statedForm b) 3) (some (UsableAlgExpr.SimpleMult (firstNumber b)))
-    (cond (eqb (statedForm b) 4) (some (UsableAlgExpr.AddMult (firstNumber b) (secondNumber b)))
-    (cond (eqb (statedForm b) 5) (some (UsableAlgExpr.MultAdd (firstNumber b) (secondNumber b)))
-    (cond (eqb (statedForm b) treeForm) (treeIn b) none)))))
+unfolding formOf
+exprIn b = cond (eqb (statedForm b) treeForm) (treeIn b) (formOf (statedForm b) (firstNumber b) (secondNumber b))
 
 -- ---- slots: absent where no block gives one; undefined, or an expression
 

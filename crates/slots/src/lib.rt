@@ -43,17 +43,13 @@ fn tree_in(b: &[u8]) -> Usable
 fn expr_in(b: &[u8]) -> Usable
     ensures { λ r. ⌜ usableSays r ≡ exprIn (now (b .entry)) ⌝ }
 {
+    let form = blocks::stated_form(b);
+    if form == blocks::TREE {
+        return tree_in(b);
+    }
     let one = blocks::first_number(b);
     let two = blocks::second_number(b);
-    match blocks::stated_form(b) {
-        1 => Usable::Expr(UsableAlgExpr::IdentOnly),
-        2 => Usable::Expr(UsableAlgExpr::SimpleAdd(one)),
-        3 => Usable::Expr(UsableAlgExpr::SimpleMult(one)),
-        4 => Usable::Expr(UsableAlgExpr::AddMult(one, two)),
-        5 => Usable::Expr(UsableAlgExpr::MultAdd(one, two)),
-        6 => tree_in(b),
-        _ => Usable::None,
-    }
+    Usable::of_form(form, one, two)
 }
 
 fn held_in(b: &[u8]) -> LengthField

@@ -10,7 +10,7 @@ use Rattle.bits.specs.Writes.{put}
 use Rattle.sheet.specs.Blocks.{blockCount, blockAt, fieldCount}
 use Rattle.blocks.proofs.Told.{stated-inside}
 use Rattle.sheet.proofs.Blocks.{block-long}
-use Rattle.sheet.proofs.SheetIs.{sheet-is}
+use Rattle.sheet.proofs.SheetIs.{in-order, laid-out}
 use Rattle.field.specs.Sound.{widthOf}
 use Rattle.field_blocks.specs.Step.{fieldAt}
 use Rattle.field_blocks.proofs.SoundFields.{field-sound}
@@ -37,13 +37,13 @@ module _ (s : List ℕ) (ok : Accepted s) where
   module _ (i : ℕ) (h : i < fieldCount s) where
     pub fillable : (buf : List ℕ) → bitsOf s ≤ 8 * length buf → Fillable buf (blockAt s i) (fieldAt s i) (startAt s i)
     fillable buf room =
-        let a = sheet-is s .0 (steps .sheet) in
-        let there : i < blockCount s = omega (arith, a .no-others) in
+        let blocks = in-order s (steps .sheet) in
+        let there : i < blockCount s = omega (arith, blocks .no-others) in
         record {
           sound = field-sound s (steps .fields) i h;
           good = good-field s (steps .fields) (steps .header) i h;
           room = omega (arith, field-inside s i h);
-          inside = λ span e. omega (arith, span-inside (blockAt s i) (stated-inside (blockAt s i) (a .f-first i h) (a .laid-out i there)) span e, block-long s i there);
+          inside = λ span e. omega (arith, span-inside (blockAt s i) (stated-inside (blockAt s i) (blocks .f-first i h) (laid-out s (steps .sheet) i there)) span e, block-long s i there);
         }
 
     -- one field more

@@ -1,2 +1,4 @@
 pub mod OneAnswer
 pub mod Stands
+pub mod IsForm
+pub mod Meaning

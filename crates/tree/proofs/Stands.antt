@@ -1,59 +1,107 @@
--- The form that a node is found to be depends on its tree alone: not on where in a table its nodes stand, nor on any that it does not reach: `same-tree`. Each
--- part of the rule is the same of nodes that stand for the same tree, by one law over the trees. Assumes nothing.
-use mathlib.Core.Path.{_≡_}
-use Prim.Native.Nat.{ℕ}
+-- A node stands for one tree: `stands-one`. And every tree stands at a node of some table: `some-table`, by a table with the root first and the children of
+-- node k at 2 * k + 1 and 2 * k + 2. Assumes nothing.
+use mathlib.Core.Path.{_≡_, refl}
+use mathlib.Core.Bool.{cond}
+use Prim.Native.Nat.{ℕ, zero, suc, _+_, _*_, _/_, _%_}
+use native.Mathlib.Omega.{arith}
+use lib.Dec.{eqb}
+use borrow.Author.Tests.{eq-eqb, ne-eqb}
 use Rattle.blocks.specs.declared.nodes.Node.{Node}
-use Rattle.tree.specs.Tree.{NodeTable, leafNumber, isX, besideX, addend, factor, sum, product, usable}
+use Rattle.tree.specs.Tree.{NodeTable}
 use Rattle.tree.specs.Stands.{AlgExpr, num, ident, add, sub, mul, div, Stands}
 
-module _ (at at' : NodeTable) {A : Type 0} where
-  -- the same of two nodes that stand for the same tree; and of two pairs of nodes
-  abbrev Same : (Node → A) → (Node → A) → Type 0
-  Same f f' = (t : AlgExpr) (p q : Node) → Stands at p t → Stands at' q t → f p ≡ f' q
+-- ---- one tree
 
-  abbrev Both : (Node → Node → A) → (Node → Node → A) → Type 0
-  Both g g' = (t u : AlgExpr) (p q p' q' : Node) → Stands at p t → Stands at q u → Stands at' p' t → Stands at' q' u → g p q ≡ g' p' q'
+module _ (at : NodeTable) where
+  -- an operator over the trees of its children
+  abbrev Over : (AlgExpr → AlgExpr → AlgExpr) → ℕ → ℕ → AlgExpr → Type 0
+  Over op l r t = (u v : AlgExpr) × (t ≡ op u v) × Stands at (at l) u × Stands at (at r) v
 
-  -- the same of two operators over the same two trees
-  abbrev Over : (Node → A) → (Node → A) → (ℕ → ℕ → Node) → Type 0
-  Over f f' op = (l r l' r' : ℕ) (t u : AlgExpr) → Stands at (at l) t → Stands at (at r) u → Stands at' (at' l') t → Stands at' (at' r') u → f (op l r) ≡ f' (op l' r')
+  -- what the tree of a node is, by the node
+  abbrev Told : Node → AlgExpr → Type 0
+  Told (Node.Num n) t = t ≡ num n
+  Told Node.Ident t = t ≡ ident
+  Told (Node.Add l r) t = Over add l r t
+  Told (Node.Sub l r) t = Over sub l r t
+  Told (Node.Mul l r) t = Over mul l r t
+  Told (Node.Div l r) t = Over div l r t
 
-  -- what is the same of the leaves and of each operator is the same of any tree
-  same : (f f' : Node → A) → ((n : ℕ) → f (Node.Num n) ≡ f' (Node.Num n)) → f Node.Ident ≡ f' Node.Ident
-      → Over f f' Node.Add → Over f f' Node.Sub → Over f f' Node.Mul → Over f f' Node.Div → Same f f'
+  told : (t : AlgExpr) (p : Node) → Stands at p t → Told p t
   unfolding Stands
-  same f f' nums x adds subs muls divs (num n) p q h k = rw (h, k) (nums n)
-  same f f' nums x adds subs muls divs ident p q h k = rw (h, k) x
-  same f f' nums x adds subs muls divs (add t u) p q h k = rw (h .2, k .2) (adds _ _ _ _ t u (h .3) (h .4) (k .3) (k .4))
-  same f f' nums x adds subs muls divs (sub t u) p q h k = rw (h .2, k .2) (subs _ _ _ _ t u (h .3) (h .4) (k .3) (k .4))
-  same f f' nums x adds subs muls divs (mul t u) p q h k = rw (h .2, k .2) (muls _ _ _ _ t u (h .3) (h .4) (k .3) (k .4))
-  same f f' nums x adds subs muls divs (div t u) p q h k = rw (h .2, k .2) (divs _ _ _ _ t u (h .3) (h .4) (k .3) (k .4))
+  told (num n) p h = rw h refl
+  told ident p h = rw h refl
+  told (add t u) p h = rw (h .2) (t, u, refl, h .3, h .4)
+  told (sub t u) p h = rw (h .2) (t, u, refl, h .3, h .4)
+  told (mul t u) p h = rw (h .2) (t, u, refl, h .3, h .4)
+  told (div t u) p h = rw (h .2) (t, u, refl, h .3, h .4)
 
-module _ (at at' : NodeTable) where
-  same-number : Same at at' leafNumber leafNumber
-  same-number = search same
+  pub stands-one : (t u : AlgExpr) (p : Node) → Stands at p t → Stands at p u → t ≡ u
+  unfolding Stands
+  stands-one (num n) u p h k = let o = rw h at (told u p k) in cc
+  stands-one ident u p h k = let o = rw h at (told u p k) in cc
+  stands-one (add a b) u p h k = let o = rw (h .2) at (told u p k) in cc (stands-one a (o .0) (at (h .0)) (h .3) (o .3), stands-one b (o .1) (at (h .1)) (h .4) (o .4))
+  stands-one (sub a b) u p h k = let o = rw (h .2) at (told u p k) in cc (stands-one a (o .0) (at (h .0)) (h .3) (o .3), stands-one b (o .1) (at (h .1)) (h .4) (o .4))
+  stands-one (mul a b) u p h k = let o = rw (h .2) at (told u p k) in cc (stands-one a (o .0) (at (h .0)) (h .3) (o .3), stands-one b (o .1) (at (h .1)) (h .4) (o .4))
+  stands-one (div a b) u p h k = let o = rw (h .2) at (told u p k) in cc (stands-one a (o .0) (at (h .0)) (h .3) (o .3), stands-one b (o .1) (at (h .1)) (h .4) (o .4))
 
-  same-x : Same at at' isX isX
-  same-x = search same
+-- ---- some table
 
-  same-beside : Both at at' besideX besideX
-  same-beside t u p q p' q' tp uq tp' uq' = rw (same-x u q q' uq uq', same-number t p p' tp tp', same-x t p p' tp tp', same-number u q q' uq uq')
+-- a node whose children have moved
+abbrev moved : (ℕ → ℕ) → Node → Node
+moved to (Node.Num n) = Node.Num n
+moved to Node.Ident = Node.Ident
+moved to (Node.Add l r) = Node.Add (to l) (to r)
+moved to (Node.Sub l r) = Node.Sub (to l) (to r)
+moved to (Node.Mul l r) = Node.Mul (to l) (to r)
+moved to (Node.Div l r) = Node.Div (to l) (to r)
 
-  same-addend : Same at at' (addend at) (addend at')
-  same-addend = search (same, same-beside)
+-- where a whole table has moved, every node stands for the tree that it stood for
+module _ (to : ℕ → ℕ) (at at' : NodeTable) (same : (k : ℕ) → at' (to k) ≡ moved to (at k)) where
+  stays : (t : AlgExpr) (p : Node) → Stands at p t → Stands at' (moved to p) t
+  unfolding Stands
+  stays (num n) p h = rw h
+  stays ident p h = rw h
+  stays (add t u) p h = (to (h .0), to (h .1), rw (h .2), rw same (stays t _ (h .3)), rw same (stays u _ (h .4)))
+  stays (sub t u) p h = (to (h .0), to (h .1), rw (h .2), rw same (stays t _ (h .3)), rw same (stays u _ (h .4)))
+  stays (mul t u) p h = (to (h .0), to (h .1), rw (h .2), rw same (stays t _ (h .3)), rw same (stays u _ (h .4)))
+  stays (div t u) p h = (to (h .0), to (h .1), rw (h .2), rw same (stays t _ (h .3)), rw same (stays u _ (h .4)))
 
-  same-factor : Same at at' (factor at) (factor at')
-  same-factor = search (same, same-beside)
+-- two tables moved apart, below a root
+abbrev toLeft : ℕ → ℕ
+toLeft k = suc (2 * k)
 
-  same-sum : Both at at' (sum at) (sum at')
-  same-sum t u p q p' q' tp uq tp' uq' =
-      rw (same-beside t u p q p' q' tp uq tp' uq', same-factor t p p' tp tp', same-factor u q q' uq uq')
-      (rw (same-number t p p' tp tp', same-number u q q' uq uq'))
+abbrev toRight : ℕ → ℕ
+toRight k = suc (2 * k + 1)
 
-  same-product : Both at at' (product at) (product at')
-  same-product t u p q p' q' tp uq tp' uq' =
-      rw (same-beside t u p q p' q' tp uq tp' uq', same-addend t p p' tp tp', same-addend u q q' uq uq')
-      (rw (same-number t p p' tp tp', same-number u q q' uq uq'))
+abbrev below : Node → NodeTable → NodeTable → NodeTable
+below root left right zero = root
+below root left right (suc k) = cond (eqb (k % 2) 0) (moved toLeft (left (k / 2))) (moved toRight (right (k / 2)))
 
-  pub same-tree : (t : AlgExpr) (p q : Node) → Stands at p t → Stands at' q t → usable at p ≡ usable at' q
-  same-tree = search (same, same-sum, same-product)
+module _ (root : Node) (left right : NodeTable) where
+  left-moved : (k : ℕ) → below root left right (toLeft k) ≡ moved toLeft (left k)
+  left-moved k = let half : 2 * k / 2 ≡ k = omega arith in rw (eq-eqb (2 * k % 2) 0 (omega arith), half)
+
+  right-moved : (k : ℕ) → below root left right (toRight k) ≡ moved toRight (right k)
+  right-moved k = let half : (2 * k + 1) / 2 ≡ k = omega arith in rw (ne-eqb ((2 * k + 1) % 2) 0 (λ e. omega arith), half)
+
+abbrev Rooted : AlgExpr → Type 0
+Rooted t = (at : NodeTable) × Stands at (at 0) t
+
+join : (op : AlgExpr → AlgExpr → AlgExpr) (node : ℕ → ℕ → Node)
+    → ((at : NodeTable) (t u : AlgExpr) → Stands at (at 1) t → Stands at (at 2) u → Stands at (node 1 2) (op t u)) → (t u : AlgExpr) → Rooted t → Rooted u → Rooted (op t u)
+join op node stands t u l r =
+    let at = below (node 1 2) (l .0) (r .0) in (
+      at,
+      stands at t u
+          (rw (left-moved (node 1 2) (l .0) (r .0) 0) (stays toLeft (l .0) at (left-moved (node 1 2) (l .0) (r .0)) t (l .0 0) (l .1)))
+          (rw (right-moved (node 1 2) (l .0) (r .0) 0) (stays toRight (r .0) at (right-moved (node 1 2) (l .0) (r .0)) u (r .0 0) (r .1))),
+    )
+
+pub some-table : (t : AlgExpr) → (at : NodeTable) × Stands at (at 0) t
+unfolding Stands
+some-table (num n) = (λ _. Node.Num n, refl)
+some-table ident = (λ _. Node.Ident, refl)
+some-table (add t u) = join add Node.Add (λ at t u l r. (1, 2, refl, l, r)) t u (some-table t) (some-table u)
+some-table (sub t u) = join sub Node.Sub (λ at t u l r. (1, 2, refl, l, r)) t u (some-table t) (some-table u)
+some-table (mul t u) = join mul Node.Mul (λ at t u l r. (1, 2, refl, l, r)) t u (some-table t) (some-table u)
+some-table (div t u) = join div Node.Div (λ at t u l r. (1, 2, refl, l, r)) t u (some-table t) (some-table u)

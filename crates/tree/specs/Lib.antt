@@ -1,2 +1,5 @@
 pub mod Tree
 pub mod Stands
+pub mod IsForm
+pub mod Meaning
+pub mod Examples

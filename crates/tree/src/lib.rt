@@ -3,7 +3,7 @@ use blocks::nodes::Node;
 use expr::MaybeNumber;
 use expr::UsableAlgExpr;
 ghost use mathlib.Core.Path.{_≡_};
-ghost use Rattle.expr.specs.Forms.{maybeNumberSays};
+ghost use Rattle.expr.specs.Forms.{formOf, maybeNumberSays};
 ghost use Rattle.answer.specs.Walk.{_orElse_};
 ghost use Rattle.tree.specs.Tree.{tableOf, leafNumber, isX, besideX, addend as addendOf, factor as factorOf, withOne, withTwo, sum as sumOf, product as productOf, usable, usableSays};
 
@@ -11,6 +11,22 @@ ghost use Rattle.tree.specs.Tree.{tableOf, leafNumber, isX, besideX, add
 pub enum Usable {
     Expr(UsableAlgExpr),
     None,
+}
+
+impl Usable {
+    // The form of a number from 1 to 5, with its numbers in the order of a sheet; none for any other.
+    pub fn of_form(number: u8, first: u64, second: u64) -> Usable
+        ensures { λ r. ⌜ usableSays r ≡ formOf number first second ⌝ }
+    {
+        match number {
+            1 => Usable::Expr(UsableAlgExpr::IdentOnly),
+            2 => Usable::Expr(UsableAlgExpr::SimpleAdd(first)),
+            3 => Usable::Expr(UsableAlgExpr::SimpleMult(first)),
+            4 => Usable::Expr(UsableAlgExpr::AddMult(first, second)),
+            5 => Usable::Expr(UsableAlgExpr::MultAdd(first, second)),
+            _ => Usable::None,
+        }
+    }
 }
 
 // The node at an index; past the table it is the number 0.

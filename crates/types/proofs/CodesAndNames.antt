@@ -5,7 +5,7 @@ use mathlib.Core.List.{List}
 use mathlib.Core.Logic.{_↔_}
 use Prim.Native.Nat.{ℕ}
 use lib.Seq.{slice}
-use borrow.Author.Tests.{eqb-true, eqb-false}
+use borrow.Author.Tests.{eqb-true, eqb-false, eq-eqb}
 use Rattle.answer.specs.declared.Group.{Group}
 use Rattle.answer.specs.Paper.{Answer, gives, refused}
 use Rattle.answer.proofs.OneToOne.{refusal-one}
@@ -38,8 +38,11 @@ same-type t u e = code-one t u (eqb-true (typeCode t) (typeCode u) e)
 pub other-type : (t u : BuiltinTypes) → sameType t u ≡ false → t ≡ u → ⊥
 other-type t u e q = eqb-false (typeCode t) (typeCode u) e (ap typeCode q)
 
+pub same-is : (t u : BuiltinTypes) → (sameType t u ≡ true) ↔ (t ≡ u)
+same-is t u = (same-type t u, λ e. eq-eqb (typeCode t) (typeCode u) (ap typeCode e))
+
 pub slice-holds-is : (t : BuiltinTypes) → (isSlice t ≡ true) ↔ (t ≡ BuiltinTypes.ByteSlice)
-slice-holds-is t = (same-type t BuiltinTypes.ByteSlice, λ e. rw e)
+slice-holds-is t = same-is t BuiltinTypes.ByteSlice
 
 pub slice-is : (t : BuiltinTypes) → (isSlice t ≡ false) ↔ (t ≡ BuiltinTypes.ByteSlice → ⊥)
 slice-is t = (other-type t BuiltinTypes.ByteSlice, λ h. fails-is (isSlice t) .1 (λ e. h (same-type t BuiltinTypes.ByteSlice e)))

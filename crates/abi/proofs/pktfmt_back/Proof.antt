@@ -13,12 +13,12 @@ returns c =
     let said = e .before .before in
     let start = said .before .before in
     let same = back-same (e .e .given .0 .0) (start .args .y) (start .fits .y .fits) (worked .reverse-exec .ensures) in
-    found-by back (start .args .y) (said .expr-from .ensures) (e .e .given .1) same (told .tell-value .ensures)
+    found-by back (start .args .y) (said .of-form .ensures) (e .e .given .1) same (told .tell-value .ensures)
 
 returns-2 : tie.Need-returns-2
 returns-2 c =
     let said = c .before .before in
-    none-found back (said .before .before .args .y) (said .expr-from .ensures) (c .enum-told .given .1)
+    none-found back (said .before .before .args .y) (said .of-form .ensures) (c .enum-told .given .1)
 
 pub pktfmt-back-spec : {M : Type 1} → statement M
 pktfmt-back-spec =

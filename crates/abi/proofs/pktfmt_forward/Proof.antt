@@ -12,12 +12,12 @@ returns c =
     let worked = told .before .before in
     let e = worked .before .before .before in
     let said = e .before .before in
-    found-by forward (said .before .before .args .x) (said .expr-from .ensures) (e .e .given .1) (told .before .in-value .ensures ∙ worked .exec .ensures) (told .tell-value .ensures)
+    found-by forward (said .before .before .args .x) (said .of-form .ensures) (e .e .given .1) (told .before .in-value .ensures ∙ worked .exec .ensures) (told .tell-value .ensures)
 
 returns-2 : tie.Need-returns-2
 returns-2 c =
     let said = c .before .before in
-    none-found forward (said .before .before .args .x) (said .expr-from .ensures) (c .enum-told .given .1)
+    none-found forward (said .before .before .args .x) (said .of-form .ensures) (c .enum-told .given .1)
 
 pub pktfmt-forward-spec : {M : Type 1} → statement M
 pktfmt-forward-spec =

@@ -4,8 +4,7 @@ use Prim.Native.Nat.{ℕ}
 use native.Mathlib.Omega.{arith}
 use lib.Dec.{eqb}
 use borrow.Author.Needs.{needs}
-use Rattle.blocks.proofs.Folding.{check-other}
-use Rattle.blocks.proofs.Rfc1071.{check-swapped}
+use Rattle.blocks.proofs.Summing.{check-other, check-swapped}
 use Rattle.blocks.proofs.check.check_holds.Statement.{statement}
 use Rattle.blocks.proofs.check.check_holds.Tie as tie
 

@@ -1,0 +1,10 @@
+pub mod Reading
+pub mod Parts
+pub mod Rows
+pub mod Tables
+pub mod ItemIn
+pub mod Name
+pub mod F
+pub mod L
+pub mod C
+pub mod Laws
