@@ -9,7 +9,7 @@ use native.Mathlib.Nat.{eq-or-lt-of-le}
 use native.Mathlib.Numerals.{add-one}
 use native.Mathlib.Omega.{arith}
 use Rattle.answer.specs.Walk.{each, _orElse_, firstWhere, isSome}
-use Rattle.answer.proofs.Tests.{fails-is}
+use Rattle.answer.proofs.Tests.{both-hold, fails-is}
 
 module _ (test : ℕ → Bool) where
   -- ---- at each index
@@ -22,6 +22,19 @@ module _ (test : ℕ → Bool) where
   pub each-more : (i : ℕ) {ok now : Bool} → ok ≡ each test i → now ≡ test i → (ok && now) ≡ each test (i + 1)
   unfolding each
   each-more i e h = rw (add-one i, e, h)
+
+  -- exactly where it holds at every one of them
+  pub each-all : (n : ℕ) → ((k : ℕ) → k < n → test k ≡ true) → each test n ≡ true
+  unfolding each
+  each-all zero h = refl
+  each-all (suc n) h = rw (each-all n (λ k l. h k (omega arith)), h n (omega arith))
+
+  pub each-at : (n : ℕ) → each test n ≡ true → (k : ℕ) → k < n → test k ≡ true
+  unfolding each
+  each-at zero h k l = absurd (omega arith)
+  each-at (suc n) h k l =
+      let two = both-hold (each test n) (test n) h in
+      ⊎-elim (λ e. rw e (two .1)) (each-at n (two .0) k) (eq-or-lt-of-le {n = k} {m = n} (omega arith))
 
   -- ---- the first
 

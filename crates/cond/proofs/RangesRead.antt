@@ -12,6 +12,7 @@ use Rattle.bounds.specs.declared.Bound.{Bound}
 use Rattle.bounds.specs.declared.CondBounds.{CondBounds}
 use Rattle.stated.specs.Items.{WellFormedStart, WellFormedRange, allNumbers, condItem, WellFormed}
 use Rattle.stated.specs.Stated.{boundKind, boundNumber, rangeCodes, stated}
+use Rattle.stated.proofs.C.{bound-back}
 use Rattle.stated.proofs.Laws.{read-back}
 use Rattle.cond.specs.Ranges.{startBound, endBound, rangeIn}
 use Rattle.cond.specs.RangesRead.{RangesRead}
@@ -21,16 +22,11 @@ start-read Bound.Unbounded good = refl
 start-read (Bound.Included n) good = refl
 start-read (Bound.Excluded n) good = absurd good
 
-end-read : (e : Bound) → endBound (boundKind e) (boundNumber e) ≡ e
-end-read Bound.Unbounded = refl
-end-read (Bound.Included n) = refl
-end-read (Bound.Excluded n) = refl
-
 range-read : (b : List ℕ) (k : ℕ) (r : CondBounds) → WellFormedRange r → statedRange b k ≡ rangeCodes r → rangeIn b k ≡ r
 unfolding rangeIn
 range-read b k r good e =
     ap (λ (c : StatedRange). record { start = startBound (c .opens) (c .start); end = endBound (c .closes) (c .end) }) e
-    ∙ rw (start-read (r .start) (good .0), end-read (r .end))
+    ∙ rw (start-read (r .start) (good .0), bound-back (r .end))
 
 pub ranges-read : (b : List ℕ) → AreBytes b → length b ≡ blockSize → (name : List ℕ) (ranges : List CondBounds)
     → WellFormed (condItem name ranges) → take checkAt b ≡ stated (condItem name ranges) → RangesRead b ranges

@@ -7,7 +7,7 @@ use mathlib.Core.Logic.{_↔_}
 use Prim.Native.Nat.{ℕ, _+_, _*_, _/_, _≤_, _<_}
 use native.Mathlib.Nat.{zero-add, zero-div, zero-mod}
 use native.Mathlib.Omega.{arith}
-use lib.Dec.{ltb, eqb, lit<}
+use lib.Dec.{eqb, lit<}
 use lib.ListN.{length, take, drop, replicate, length-replicate}
 use lib.Seq.{slice, length-slice}
 use borrow.Author.Tests.{ne-eqb}
@@ -19,12 +19,13 @@ use Rattle.answer.proofs.Chains.{stand, both-is, refuse-is, never-given, given,
 use Rattle.answer.proofs.Tests.{not-is, eqb-is}
 use Rattle.answer.proofs.OneToOne.{verdict-one}
 use Rattle.octets.specs.Octets.{AreBytes}
-use Rattle.octets.proofs.Octets.{bytes-take, bytes-drop, zeros}
+use Rattle.octets.proofs.Octets.{bytes-take, bytes-drop, bytes-slice, zeros}
 use Rattle.bits.specs.Bits.{bit, spelled}
 use Rattle.bits.proofs.Num.{num-at}
 use Rattle.bits.proofs.Bits.{bit-lt, bits-ext, spelled-ext}
-use Rattle.blocks.specs.Layout.{blockSize, statedBits, statedDefaultKind, statedNumber, statedCount, statedBytesAt}
-use Rattle.sheet.specs.Blocks.{blockCount, blockAt, fieldCount}
+use Rattle.blocks.specs.Layout.{statedBits, statedDefaultKind, statedNumber, statedCount, statedBytesAt}
+use Rattle.sheet.proofs.Blocks.{block-bytes}
+use Rattle.sheet.specs.Blocks.{blockAt, fieldCount}
 use Rattle.types.proofs.CodesAndNames.{slice-holds-is}
 use Rattle.field.specs.declared.Span.{Span}
 use Rattle.field.specs.declared.DefaultVal.{DefaultVal}
@@ -55,18 +56,7 @@ use Rattle.laws.specs.Entries.{EntriesOwe}
 use Rattle.laws.proofs.Exactly.{exactly}
 use Rattle.laws.proofs.Demand.{demand}
 
--- ---- parts of bytes are bytes, and bytes that spell 0 are zeros
-
-slice-bytes : (a e : ℕ) (l : List ℕ) → AreBytes l → AreBytes (slice a e l)
-slice-bytes a e l h = bytes-drop a (take e l) (bytes-take e l h)
-
-block-bytes : (s : List ℕ) (i : ℕ) → AreBytes s → AreBytes (blockAt s i)
-unfolding blockAt
-block-bytes s i h = by-test (ltb i (blockCount s))
-  where
-    by-test : (whole : Bool) → AreBytes (cond whole (slice (blockSize * i) (blockSize * i + blockSize) s) [])
-    by-test true = slice-bytes (blockSize * i) (blockSize * i + blockSize) s h
-    by-test false = λ k. lit< tt
+-- ---- bytes that spell 0 are zeros
 
 spell-zero : (l : List ℕ) (n : ℕ) → AreBytes l → length l ≡ n → spelled l ≡ 0 → l ≡ replicate n 0
 unfolding bit
@@ -190,7 +180,7 @@ module _ (s : List ℕ) where
       stated-read : AreBytes s → left slice-field ≡ stated-bytes
       stated-read h =
           spelled-ext (left slice-field) stated-bytes (left-bytes slice-field)
-          (slice-bytes statedBytesAt (statedBytesAt + statedCount (blockAt s i)) (blockAt s i) (block-bytes s i h))
+          (bytes-slice statedBytesAt (statedBytesAt + statedCount (blockAt s i)) (blockAt s i) (block-bytes s h i))
           same-size (left-spells slice-field ∙ rw default-is)
 
   -- ---- reads and writes

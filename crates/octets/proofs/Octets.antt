@@ -36,6 +36,9 @@ bytes-take n s h i = go (decLt i n)
 pub bytes-drop : (n : ℕ) (s : List ℕ) → AreBytes s → AreBytes (drop n s)
 bytes-drop n s h i = rw (getD-drop n s i 0) (h (n + i))
 
+pub bytes-slice : (a e : ℕ) (s : List ℕ) → AreBytes s → AreBytes (slice a e s)
+bytes-slice a e s h = bytes-drop a (take e s) (bytes-take e s h)
+
 -- past the end there are zeros
 pub byte-past : (s : List ℕ) (at : ℕ) → length s ≤ at → byte s at ≡ 0
 byte-past s at h = omega (arith, List·getD-eq-default s 0 h)

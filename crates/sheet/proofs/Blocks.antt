@@ -1,18 +1,18 @@
 -- Laws of the blocks of a sheet: how long one is, that it is bytes, and the counts of kinds, block by block. Assumes nothing.
 use mathlib.Core.Path.{_≡_, refl, _∙_}
 use mathlib.Core.Bool.{Bool, true, false, cond}
-use mathlib.Core.List.{List}
+use mathlib.Core.List.{List, []}
 use Prim.Native.Nat.{ℕ, zero, suc, _+_, _*_, _≤_, _<_}
 use native.Mathlib.Numerals.{add-one}
 use native.Mathlib.Omega.{arith}
-use lib.Dec.{lit≤}
-use lib.ListN.{length, take}
-use lib.Seq.{length-slice}
+use lib.Dec.{ltb, lit<, lit≤}
+use lib.ListN.{length}
+use lib.Seq.{slice, length-slice}
 use borrow.Author.Tests.{lt-ltb}
 use Rattle.sheet.specs.declared.Counts.{Counts}
 use Rattle.sheet.specs.declared.SlotBlock.{SlotBlock}
 use Rattle.octets.specs.Octets.{AreBytes}
-use Rattle.octets.proofs.Octets.{bytes-take, bytes-drop}
+use Rattle.octets.proofs.Octets.{bytes-slice}
 use Rattle.blocks.specs.Layout.{blockSize, kindOf, isF, isL, isC}
 use Rattle.sheet.specs.Blocks.{blockCount, blockAt, count, countsOf, slotBlockSays}
 use Rattle.sheet.specs.Working.{counted}
@@ -22,11 +22,14 @@ pub block-long : (s : List ℕ) (i : ℕ) → i < blockCount s → length (block
 unfolding blockAt
 block-long s i h = rw (lt-ltb i (blockCount s) h) (length-slice (blockSize * i) (blockSize * i + blockSize) s (omega arith) ∙ omega arith)
 
--- and of a sheet of bytes it is bytes
-pub block-bytes : (s : List ℕ) → AreBytes s → (i : ℕ) → i < blockCount s → AreBytes (blockAt s i)
+-- and of a sheet of bytes it is bytes, as is the nothing past the last
+pub block-bytes : (s : List ℕ) → AreBytes s → (i : ℕ) → AreBytes (blockAt s i)
 unfolding blockAt
-block-bytes s bytes i h =
-    rw (lt-ltb i (blockCount s) h) (bytes-drop (blockSize * i) (take (blockSize * i + blockSize) s) (bytes-take (blockSize * i + blockSize) s bytes))
+block-bytes s bytes i = by-test (ltb i (blockCount s))
+  where
+    by-test : (whole : Bool) → AreBytes (cond whole (slice (blockSize * i) (blockSize * i + blockSize) s) [])
+    by-test true = bytes-slice (blockSize * i) (blockSize * i + blockSize) s bytes
+    by-test false = λ k. lit< tt
 
 -- one more or none
 one-le : (test : Bool) → cond test 1 0 ≤ 1

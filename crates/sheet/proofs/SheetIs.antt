@@ -237,7 +237,7 @@ module _ (s : List ℕ) (bytes : AreBytes s) where
   check-is i h = rw (check-block (blockAt s i) (block-long s i h)) (eqb-is _ 65535)
 
   states-is : (i : ℕ) → i < blockCount s → (layoutHolds (blockAt s i) ≡ true) ↔ ((d : Item) × WellFormed d × (take checkAt (blockAt s i) ≡ stated d))
-  states-is i h = layout-is (blockAt s i) (block-bytes s bytes i h) (block-long s i h)
+  states-is i h = layout-is (blockAt s i) (block-bytes s bytes i) (block-long s i h)
 
   sheet-passes : SheetIs s → sheetCheck s ≡ accepted
   unfolding sheetCheck

@@ -11,6 +11,7 @@ use lib.Seq.{slice}
 use borrow.Author.Tests.{leb-true, le-leb, eqb-true, eq-eqb}
 use Rattle.answer.specs.Walk.{each}
 use Rattle.answer.proofs.Tests.{parts}
+use Rattle.answer.proofs.Walk.{each-all, each-at}
 use Rattle.octets.specs.Octets.{AreBytes, byte, be, allIn, isZero}
 use Rattle.octets.proofs.Octets.{be-lt}
 use Rattle.blocks.specs.Layout.{blockSize, checkAt, kindOf, kindC, nameOf, rangeCount, rangeAt, statedRange, rangeRule, rangeLayout, cLayout}
@@ -22,7 +23,7 @@ use Rattle.stated.specs.Stated.{boundKind, boundNumber, rangeCodes, rang
 use Rattle.stated.proofs.ItemIn.{boundFrom, boundsFrom, boundsIn}
 use Rattle.stated.proofs.Reading.{Fit, Reads}
 use Rattle.stated.proofs.Rows.{rows-length, rows-bytes, rows-are}
-use Rattle.stated.proofs.Tables.{tabled, tabled-length, tabled-each, tabled-of, each-all, each-at}
+use Rattle.stated.proofs.Tables.{tabled, tabled-length, tabled-each, tabled-of}
 use Rattle.stated.proofs.Name.{name-fits, name-read, name-holds}
 
 -- ---- a start and an end, by their codes
@@ -40,7 +41,7 @@ end-read (suc zero) n h z l = (l, refl, refl)
 end-read (suc (suc zero)) n h z l = (l, refl, refl)
 end-read (suc (suc (suc k))) n h z l = absurd (omega (arith, leb-true (suc (suc (suc k))) 2 h))
 
-bound-back : (e : Bound) → boundFrom (boundKind e) (boundNumber e) ≡ e
+pub bound-back : (e : Bound) → boundFrom (boundKind e) (boundNumber e) ≡ e
 bound-back Bound.Unbounded = refl
 bound-back (Bound.Included n) = refl
 bound-back (Bound.Excluded n) = refl

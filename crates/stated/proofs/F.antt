@@ -5,12 +5,12 @@ use mathlib.Core.List.{List, [], _∷_}
 use Prim.Native.Nat.{ℕ, zero, suc, _+_, _^_, _≤_, _<_}
 use native.Mathlib.Omega.{arith}
 use lib.Dec.{leb, eqb, lit<, lit≤}
-use lib.ListN.{length, take}
+use lib.ListN.{length}
 use lib.Seq.{slice}
 use borrow.Author.Tests.{leb-true, le-leb, eqb-true}
 use Rattle.answer.proofs.Tests.{both-hold, parts}
 use Rattle.octets.specs.Octets.{AreBytes, byte}
-use Rattle.octets.proofs.Octets.{be-lt, bytes-take, bytes-drop}
+use Rattle.octets.proofs.Octets.{be-lt, bytes-slice}
 use Rattle.blocks.specs.Layout.{blockSize, kindOf, kindF, statedRepr, statedArg, statedGen, statedDefaultKind, statedFixed, statedNumber, statedCount, statedBytesAt, named, codesLayout, defaultRule, defaultLayout, fLayout}
 use Rattle.stated.specs.Items.{aNumber, someBytes, aBool, DefaultItem, noDefault, aDefault, FieldItem, WellFormedDefault, WellFormedField}
 use Rattle.stated.specs.Stated.{flag, kindOfDefault, fixedOfDefault, numberOfDefault, bytesOfDefault, defaultParts, fieldParts}
@@ -137,7 +137,7 @@ module _ (b : List ℕ) (bytes : AreBytes b) (long : length b ≡ blockSize) whe
       let two = counted b long statedBytesAt 424 (statedCount b) few (lit≤ tt) (search parts) in
       let read : DefaultRead (statedDefaultKind b) (statedFixed b) (statedNumber b) l (fieldIn b .default) =
       default-read (statedDefaultKind b) (statedFixed b) (statedNumber b) l (search parts) (search parts) (rw (two .0) rule) (be-lt b bytes 76 8)
-      (bytes-drop statedBytesAt (take (statedBytesAt + statedCount b) b) (bytes-take (statedBytesAt + statedCount b) b bytes)) in
+      (bytes-slice statedBytesAt (statedBytesAt + statedCount b) b bytes) in
       let zero-byte = eqb-true (byte b 75) 0 (search parts) in
       let default : Reads b 73 (defaultParts (fieldIn b .default)) =
       (read .kinds, (read .fixes, (zero-byte, (read .numbers, (sym (two .0) ∙ ap length (read .bytes), (rw (← (read .bytes)) (two .1), tt)))))) in (

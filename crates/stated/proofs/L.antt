@@ -11,6 +11,7 @@ use lib.Seq.{slice}
 use borrow.Author.Tests.{leb-true, le-leb, ltb-true, lt-ltb, eqb-true, eqb-false}
 use Rattle.answer.specs.Walk.{each}
 use Rattle.answer.proofs.Tests.{parts, and-is, eqb-is}
+use Rattle.answer.proofs.Walk.{each-all, each-at}
 use Rattle.octets.specs.Octets.{AreBytes, byte, allIn, isZero}
 use Rattle.octets.proofs.Octets.{be-lt, all-more}
 use Rattle.blocks.specs.declared.nodes.Node.{Node}
@@ -26,7 +27,7 @@ use Rattle.stated.proofs.ItemIn.{formFrom, lengthIn}
 use Rattle.stated.proofs.Reading.{partsWidth, Fit, Reads}
 use Rattle.stated.proofs.Parts.{all-join, nothing-read, nothing-fits}
 use Rattle.stated.proofs.Rows.{rows-length, rows-bytes, rows-are}
-use Rattle.stated.proofs.Tables.{tabled, tabled-length, tabled-each, tabled-of, each-all, each-at}
+use Rattle.stated.proofs.Tables.{tabled, tabled-length, tabled-each, tabled-of}
 use Rattle.stated.proofs.Name.{name-fits, name-read, name-holds}
 
 -- ---- a form, by its codes
