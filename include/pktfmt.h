@@ -2,14 +2,19 @@
  *
  * Every function answers on every argument. A slice is a pointer to its first element and a count of
  * elements, all of them readable, and writable where the pointer is not const; a slice of 0 elements may have
- * any pointer but NULL. Slices that are passed together do not overlap where one of them is written.
+ * any pointer but NULL. An array with its count in brackets is a pointer to as many elements, and never NULL.
+ * Slices and arrays that are passed together do not overlap where one of them is written.
  *
  * A function that can refuse returns true where it does not. What it tells, or the refusal, goes to the front
  * of `answer`, as far as there is room; the rest of `answer` stays as it was. A refusal is three numbers: the
  * group, the number in it, and the place (docs/RULES.md). Nothing else that was lent is then changed.
  *
- * What says where a field stands is a locator: six numbers, worked out once, good for any number of
- * buffers. */
+ * What says where a field stands is a locator: six numbers, worked out once, good for any number of buffers.
+ * Anyone can make one up. Six numbers that no field can have are access 1, whatever is asked, and nothing is
+ * read or written there: 0 bits; a number that touches more than 8 bytes; bytes that are fewer than two or
+ * off a byte boundary; a default over the field's bits, or one for bytes; an end past the header; a header
+ * over 4,194,303 bytes; a fifth number over 2. At any others reads and writes stay inside the field, and the
+ * field inside the header. */
 #ifndef PKTFMT_H
 #define PKTFMT_H
 
@@ -63,8 +68,9 @@ bool pktfmt_template(const uint8_t *sheet, size_t sheet_len, uint8_t *buf, size_
                      uint64_t *answer, size_t answer_len);
 
 /* Steps 1 to 5 and access 1. Tells the field's locator, six numbers: its index, the header's bytes, its
- * first bit, its bits, what it holds, and its default (0 for bytes). */
-bool pktfmt_field(const uint8_t *sheet, size_t sheet_len, size_t index, uint64_t *answer, size_t answer_len);
+ * first bit, its bits, what it holds, and its default (0 for bytes). A refusal has three zeros after it, and
+ * so is no locator. */
+bool pktfmt_field(const uint8_t *sheet, size_t sheet_len, size_t index, uint64_t answer[6]);
 
 /* Steps 1 to 5. Tells of a length slot, five numbers: what it holds, its first and its second number, the
  * index of its field, and the length of the field's largest value; 0 for what it lacks. */
@@ -76,17 +82,15 @@ bool pktfmt_forward(uint8_t form, uint64_t first, uint64_t second, uint64_t x,
 bool pktfmt_back(uint8_t form, uint64_t first, uint64_t second, uint64_t y,
                  uint64_t *answer, size_t answer_len);
 
-/* Access 1 to 5 at a locator, as pktfmt_field tells it; one that no field can have is access 1. Reading a
- * number tells it; reading bytes tells the index of the first and how many they are; writing tells
- * nothing. */
-bool pktfmt_read_number(const uint64_t *locator, size_t locator_len, const uint8_t *buf, size_t buf_len,
-                        uint64_t *answer, size_t answer_len);
-bool pktfmt_read_bytes(const uint64_t *locator, size_t locator_len, const uint8_t *buf, size_t buf_len,
-                       uint64_t *answer, size_t answer_len);
-bool pktfmt_write_number(const uint64_t *locator, size_t locator_len, uint8_t *buf, size_t buf_len,
-                         uint64_t value, uint64_t *answer, size_t answer_len);
-bool pktfmt_write_bytes(const uint64_t *locator, size_t locator_len, uint8_t *buf, size_t buf_len,
-                        const uint8_t *bytes, size_t bytes_len, uint64_t *answer, size_t answer_len);
+/* Access 1 to 5 at a locator, as pktfmt_field tells it. The place of a refusal is its first number, which
+ * says nothing else. Reading a number tells it; reading bytes tells the index of the first and how many they
+ * are; writing tells nothing. */
+bool pktfmt_read_number(const uint64_t locator[6], const uint8_t *buf, size_t buf_len, uint64_t answer[3]);
+bool pktfmt_read_bytes(const uint64_t locator[6], const uint8_t *buf, size_t buf_len, uint64_t answer[3]);
+bool pktfmt_write_number(const uint64_t locator[6], uint8_t *buf, size_t buf_len, uint64_t value,
+                         uint64_t answer[3]);
+bool pktfmt_write_bytes(const uint64_t locator[6], uint8_t *buf, size_t buf_len,
+                        const uint8_t *bytes, size_t bytes_len, uint64_t answer[3]);
 
 /* The lister's text of a sheet, from the front of `out` on, as far as there is room: how many bytes it is
  * there. 40,000 bytes are room for every sheet. */

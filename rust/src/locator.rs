@@ -5,7 +5,8 @@ use crate::Refusal;
 
 /// Where a field stands, and what reading and writing it has to know.
 ///
-/// Anyone can make up a locator. One that no field can have is refused by every read and write, access 1.
+/// Anyone can make up a locator. One that no field can have is refused by every read and write, access 1; at any
+/// other they stay inside its bits, and these inside its header.
 #[derive(Clone, Copy, Debug, PartialEq, Eq)]
 pub struct Locator {
     /// The field's index, which is the place of refusals.

@@ -1,18 +1,21 @@
--- What is told fixes the answer and the slice after it, a group is known by its number, and the numbers of a locator stand for that locator. Then the contracts by their cases: what
+-- What is told fixes the answer and the slice after it, and six numbers at which a field can stand are those of one locator, which a refusal never tells. Then the contracts by their cases: what
 -- was given or refused is told so, a number is found or not, and the buffer after a template or a write. Assumes nothing.
 use mathlib.Core.Path.{_≡_, refl, sym, ap, _∙_}
-use mathlib.Core.Bool.{Bool, true, false}
+use mathlib.Core.Bool.{Bool, true, false, cond, _&&_}
 use mathlib.Core.List.{List, [], _∷_, _++_}
-use mathlib.Core.Option.{Option}
+use mathlib.Core.Option.{Option, none, some, Option·some-injective}
 use Prim.Native.Nat.{ℕ, _^_, _≤_, _<_}
 use native.Mathlib.Omega.{arith}
-use lib.ListN.{length}
+use lib.Dec.{eqb}
+use lib.ListN.{length, getD}
+use borrow.Author.Tests.{eqb-true}
 use Rattle.answer.specs.declared.Group.{Group}
 use Rattle.answer.specs.declared.OnPaper.{OnPaper}
 use Rattle.answer.specs.declared.Verdict.{Verdict}
-use Rattle.answer.specs.Paper.{Answer, gives, refused, Check, verdictSays, onPaperSays, groupNumber}
+use Rattle.answer.specs.Paper.{Answer, gives, refused, Check, isGiven, verdictSays, onPaperSays, groupNumber}
 use Rattle.answer.proofs.Chains.{never-given}
-use Rattle.answer.specs.Walk.{orZero}
+use Rattle.answer.proofs.Tests.{clash, both-hold}
+use Rattle.answer.specs.Walk.{orZero, isSome}
 use Rattle.sheet.specs.Blocks.{fieldCount}
 use Rattle.layout.specs.Layout.{Filled, fill}
 use Rattle.layout.specs.Access.{Value, after}
@@ -34,9 +37,10 @@ use Rattle.template.specs.Template.{templateCheck, TemplateBuilt}
 use Rattle.template.proofs.Built.{room-is}
 use Rattle.locator.specs.declared.Held.{Held}
 use Rattle.locator.specs.declared.Locator.{Locator}
-use Rattle.locator.specs.Locator.{heldDefault, reachAt, writeCheckAt, readAt, applyAt, WrittenAt}
+use Rattle.locator.specs.Locator.{isLocator, heldDefault, reachAt, writeCheckAt, readAt, applyAt, WrittenAt}
+use Rattle.locator.proofs.Reached.{no-bits}
 use Rattle.abi.specs.Told.{laid, toldOf, nothing, Told, Found}
-use Rattle.abi.specs.Numbers.{templateAfter, heldNumber, locatorNumbers, heldFrom, locatorFrom, formNumbers, slotFieldNumber, slotNumbers, byForm}
+use Rattle.abi.specs.Numbers.{templateAfter, heldNumber, locatorNumbers, heldFrom, locatorWith, locatorIf, locatorFrom, locatorTold, formNumbers, slotFieldNumber, slotNumbers, byForm}
 
 -- ---- one answer
 
@@ -46,16 +50,54 @@ told-one x y = (x .given ∙ sym (y .given), x .told ∙ sym (y .told))
 pub found-one : {number : Option ℕ} {b c d : List ℕ} {q r : Bool} → Found number b c q → Found number b d r → (q ≡ r) × (c ≡ d)
 found-one x y = (x .there ∙ sym (y .there), x .told ∙ sym (y .told))
 
--- ---- the numbers of a locator stand for that locator
+-- ---- six numbers, and the locator that they stand for
 
-held-back : (h : Held) → heldFrom (heldNumber h) (heldDefault h) ≡ h
+-- the numbers of a locator stand for it
+held-back : (h : Held) → heldFrom (heldNumber h) (heldDefault h) ≡ some h
 unfolding heldFrom
 held-back (Held.Number default true) = refl
 held-back (Held.Number default false) = refl
 held-back Held.Bytes = refl
 
 pub locator-back : (p : Locator) → locatorFrom (locatorNumbers p) ≡ p
-locator-back p = ap (λ (h : Held). record { index = p .index; header = p .header; start = p .start; width = p .width; held = h }) (held-back (p .held))
+locator-back p = ap (λ (h : Option Held). locatorIf h (locatorNumbers p)) (held-back (p .held))
+
+-- bytes that are said to have a default are of no bits
+pub bytes-from : (l : List ℕ) → getD l 4 0 ≡ 2 → locatorWith l (cond (eqb (getD l 5 0) 0) (getD l 3 0) 0) Held.Bytes ≡ locatorFrom l
+unfolding heldFrom
+bytes-from l is = rw is (of (eqb (getD l 5 0) 0))
+  where
+    of : (none-said : Bool) → locatorWith l (cond none-said (getD l 3 0) 0) Held.Bytes ≡ locatorIf (cond none-said (some Held.Bytes) none) l
+    of true = refl
+    of false = refl
+
+-- where six numbers stand for something held, they are its numbers
+numbers-held : (held default : ℕ) {h : Held} → heldFrom held default ≡ some h → (heldNumber h ≡ held) × (heldDefault h ≡ default)
+unfolding heldFrom
+numbers-held held default {h} = by-code (eqb held 0) (eqb held 1) (eqb held 2 && eqb default 0) refl refl refl
+  where
+    held-as : {k : Held} → some k ≡ some h → heldNumber k ≡ held → heldDefault k ≡ default → (heldNumber h ≡ held) × (heldDefault h ≡ default)
+    held-as {k} is code same = let one = Option·some-injective k h is in (rw one at code, rw one at same)
+
+    by-code : (zero one two : Bool) → eqb held 0 ≡ zero → eqb held 1 ≡ one → (eqb held 2 && eqb default 0) ≡ two
+        → cond zero (some (Held.Number default false)) (cond one (some (Held.Number default true)) (cond two (some Held.Bytes) none)) ≡ some h → (heldNumber h ≡ held) × (heldDefault h ≡ default)
+    by-code true one two z o t is = held-as is (sym (eqb-true held 0 z)) refl
+    by-code false true two z o t is = held-as is (sym (eqb-true held 1 o)) refl
+    by-code false false true z o t is = let both = both-hold (eqb held 2) (eqb default 0) t in held-as is (sym (eqb-true held 2 (both .0))) (sym (eqb-true default 0 (both .1)))
+    by-code false false false z o t is = clash (ap isSome (sym is))
+
+-- so six numbers at which a field can stand are the numbers of that locator: no field has two such sixes
+pub numbers-back : (a b c d e f : ℕ) → let six = a ∷ b ∷ c ∷ d ∷ e ∷ f ∷ [] in isLocator (locatorFrom six) ≡ true → locatorNumbers (locatorFrom six) ≡ six
+numbers-back a b c d e f ok = by-held (heldFrom e f) refl ok
+  where
+    by-held : (h : Option Held) → heldFrom e f ≡ h → let six = a ∷ b ∷ c ∷ d ∷ e ∷ f ∷ [] in isLocator (locatorIf h six) ≡ true → locatorNumbers (locatorIf h six) ≡ six
+    by-held (some h) is located = let same = numbers-held e f is in rw (same .0, same .1)
+    by-held none is located = absurd (no-bits _ refl located)
+
+-- what is told of a field that is refused is no locator
+pub refusal-no-locator : (g : Group) (n at : ℕ) → isLocator (locatorFrom (locatorTold (refused g n at))) ≡ true → ⊥
+unfolding heldFrom
+refusal-no-locator g n at = no-bits _ refl
 
 -- ---- what was given or refused is told so
 
@@ -71,6 +113,13 @@ module _ {A : Type 0} {numbers : A → List ℕ} {answer : Answer A} {b b' : Lis
 pub printed-told : (p : OnPaper) {g : Group} {n at : ℕ} (b : List ℕ) {b' : List ℕ} → onPaperSays p ≡ refused g n at → b' ≡ laid (toldOf nothing (onPaperSays p)) 0 b
     → b' ≡ laid (groupNumber g ∷ n ∷ at ∷ []) 0 b
 printed-told p b e h = h ∙ ap (λ (x : Check). laid (toldOf nothing x) 0 b) e
+
+-- and so they are in the six numbers of a locator; what is told there of an answer is told of any that is the same
+pub refusal-in-six : (p : OnPaper) {g : Group} {n at : ℕ} → onPaperSays p ≡ refused g n at → (groupNumber (p .group) ∷ p .number ∷ p .place ∷ 0 ∷ 0 ∷ 0 ∷ []) ≡ locatorTold (refused g n at)
+refusal-in-six p e = ap (λ (x : Check). toldOf nothing x ++ (0 ∷ 0 ∷ 0 ∷ [])) e
+
+pub told-in-six : {x y : Answer Locator} {six : List ℕ} {r : Bool} → x ≡ y → r ≡ isGiven y → six ≡ locatorTold y → (r ≡ isGiven x) × (six ≡ locatorTold x)
+told-in-six e given told = rw e (given, told)
 
 -- ---- a number that is worked out by a form, if there is such a form
 

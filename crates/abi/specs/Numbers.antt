@@ -1,11 +1,11 @@
 -- What the boundary tells, in numbers, and what it takes numbers for. Assumes nothing.
-use mathlib.Core.Bool.{true, false, cond}
+use mathlib.Core.Bool.{true, false, cond, _&&_}
 use mathlib.Core.List.{List, [], _∷_, _++_}
 use mathlib.Core.Option.{Option, none, some}
 use Prim.Native.Nat.{ℕ, _/_}
 use lib.Dec.{eqb}
 use lib.ListN.{length, getD}
-use Rattle.answer.specs.Paper.{Answer, gives, _andThen_}
+use Rattle.answer.specs.Paper.{Answer, gives, refused, groupNumber, _andThen_}
 use Rattle.answer.specs.Walk.{orZero}
 use Rattle.layout.specs.Layout.{fill}
 use Rattle.layout.specs.Access.{Value, number, bytes, after}
@@ -43,18 +43,33 @@ heldNumber Held.Bytes = 2
 abbrev pub locatorNumbers : Locator → List ℕ
 locatorNumbers p = p .index ∷ locatorHeader p ∷ firstBit p ∷ locatorWidth p ∷ heldNumber (p .held) ∷ heldDefault (p .held) ∷ []
 
--- the locator of six numbers; one that is missing is 0, and any number but 0 and 1 stands for bytes
-unfoldable pub heldFrom : ℕ → ℕ → Held
-heldFrom held default = cond (eqb held 0) (Held.Number default false) (cond (eqb held 1) (Held.Number default true) Held.Bytes)
+-- and back. The fifth and the sixth number stand for what is held: 0 a number, 1 a number that is fixed, each with its default, and 2 with the default 0 bytes; any others
+-- stand for nothing
+unfoldable pub heldFrom : ℕ → ℕ → Option Held
+heldFrom held default =
+    cond (eqb held 0) (some (Held.Number default false)) (cond (eqb held 1) (some (Held.Number default true)) (cond (eqb held 2 && eqb default 0) (some Held.Bytes) none))
 
-abbrev pub locatorFrom : List ℕ → Locator
-locatorFrom l = record {
+abbrev pub locatorWith : List ℕ → ℕ → Held → Locator
+locatorWith l width held = record {
   index = getD l 0 0;
   header = record { 0 = getD l 1 0 };
   start = record { global = record { 0 = getD l 2 0 } };
-  width = record { 0 = getD l 3 0 };
-  held = heldFrom (getD l 4 0) (getD l 5 0);
+  width = record { 0 = width };
+  held = held;
 }
+
+-- six numbers that stand for nothing held are taken for bytes of no bits, which no field has
+abbrev pub locatorIf : Option Held → List ℕ → Locator
+locatorIf (some held) l = locatorWith l (getD l 3 0) held
+locatorIf none l = locatorWith l 0 Held.Bytes
+
+abbrev pub locatorFrom : List ℕ → Locator
+locatorFrom l = locatorIf (heldFrom (getD l 4 0) (getD l 5 0)) l
+
+-- what is told of a field takes all six: its locator, or the three of the refusal and zeros, which is no locator either
+abbrev pub locatorTold : Answer Locator → List ℕ
+locatorTold (gives p) = locatorNumbers p
+locatorTold (refused g n at) = groupNumber g ∷ n ∷ at ∷ 0 ∷ 0 ∷ 0 ∷ []
 
 -- ---- what is read at a locator: a number itself; of bytes the index of the first, and how many they are
 

@@ -17,10 +17,11 @@ use number::Bytes;
 use slots::LengthField;
 use tree::Usable;
 ghost use mathlib.Core.Path.{_≡_};
-ghost use mathlib.Core.Bool.{true, false};
+ghost use mathlib.Core.Bool.{true, false, cond};
 ghost use mathlib.Core.List.{[], _∷_};
-ghost use lib.ListN.{length, set, getD};
-ghost use Rattle.answer.specs.Paper.{verdictSays, refusalSays};
+ghost use lib.Dec.{eqb};
+ghost use lib.ListN.{length, set};
+ghost use Rattle.answer.specs.Paper.{verdictSays, refusalSays, isGiven};
 ghost use Rattle.answer.specs.Walk.{orZero};
 ghost use Rattle.layout.specs.Access.{number as aNumber, bytes as someBytes};
 ghost use Rattle.header.specs.Names.{nameAt, fieldNamed};
@@ -31,7 +32,7 @@ ghost use Rattle.template.specs.Template.{templateCheck};
 ghost use Rattle.access.specs.Access.{locatorIn};
 ghost use Rattle.listing.specs.Listing.{Listed};
 ghost use Rattle.abi.specs.Told.{laid, nothing, Told, Found};
-ghost use Rattle.abi.specs.Numbers.{headerNumbers, templateAfter, heldNumber, locatorNumbers, heldFrom, locatorFrom, valueNumbers, spanNumbers, exprNumbers, formNumbers, slotFieldNumber, slotNumbers, slotAnswer, asTheyAre, forwardBy, backBy};
+ghost use Rattle.abi.specs.Numbers.{headerNumbers, templateAfter, heldNumber, locatorNumbers, locatorWith, locatorFrom, locatorTold, valueNumbers, spanNumbers, exprNumbers, formNumbers, slotFieldNumber, slotNumbers, slotAnswer, asTheyAre, forwardBy, backBy};
 
 // ---- numbers in a lent slice
 
@@ -42,13 +43,6 @@ fn tell(answer: &mut [u64], at: usize, n: u64)
     if at < answer.len() {
         answer[at] = n;
     }
-}
-
-// The number at an index; 0 past the end.
-fn number_at(numbers: &[u64], at: usize) -> u64
-    ensures { λ r. ⌜ r ≡ getD (now (numbers .entry)) at 0 ⌝ }
-{
-    if at < numbers.len() { numbers[at] } else { 0 }
 }
 
 // ---- refusals
@@ -97,64 +91,64 @@ fn default_in(held: Held) -> u64
 }
 
 // The six numbers of a locator.
-fn tell_locator(answer: &mut [u64], p: Locator)
-    ensures { λ _. ⌜ now (answer .exit) ≡ laid (locatorNumbers p) 0 (now (answer .entry)) ⌝ }
+fn tell_locator(answer: &mut [u64; 6], p: Locator)
+    ensures { λ _. ⌜ now (answer .exit) ≡ locatorNumbers p ⌝ }
 {
     let held = p.held;
-    tell(answer, 0, p.index as u64);
-    tell(answer, 1, p.header.0);
-    tell(answer, 2, p.start.global.0);
-    tell(answer, 3, p.width.0);
-    tell(answer, 4, held_number(held));
-    tell(answer, 5, default_in(held));
+    *answer = [
+        p.index as u64,
+        p.header.0,
+        p.start.global.0,
+        p.width.0,
+        held_number(held),
+        default_in(held),
+    ];
 }
 
-fn held_from(held: u64, default: u64) -> Held
-    ensures { λ r. ⌜ r ≡ heldFrom held default ⌝ }
+// A refusal in the six numbers of a locator: zeros for the other three, so that no field stands there.
+fn tell_no_locator(answer: &mut [u64; 6], reason: Refusal)
+    ensures { λ _. ⌜ now (answer .exit) ≡ locatorTold (refusalSays reason) ⌝ }
 {
-    match held {
-        0 => Held::Number(default, false),
-        1 => Held::Number(default, true),
-        _ => Held::Bytes,
-    }
+    let paper = reason.on_paper();
+    let group = paper.group;
+    let number = paper.number as u64;
+    let place = paper.place as u64;
+    *answer = [group.number() as u64, number, place, 0, 0, 0];
 }
 
-fn locator_of(index: u64, header: u64, start: u64, width: u64, held: u64, default: u64) -> Locator
-    ensures { λ r. ⌜ r ≡ locatorFrom (index ∷ header ∷ start ∷ width ∷ held ∷ default ∷ []) ⌝ }
+fn locator_with(numbers: &[u64; 6], width: u64, held: Held) -> Locator
+    ensures { λ r. ⌜ r ≡ locatorWith (now (numbers .entry)) width held ⌝ }
 {
     Locator {
-        index: index as usize,
-        header: Bytes(header),
+        index: numbers[0] as usize,
+        header: Bytes(numbers[1]),
         start: BitPos {
-            global: Bits(start),
+            global: Bits(numbers[2]),
         },
         width: Bits(width),
-        held: held_from(held, default),
+        held,
     }
 }
 
-// The locator of six numbers: one test, where there are so many.
-fn locator_from(numbers: &[u64]) -> Locator
+// The width of bytes; none where they are said to have a default.
+fn bytes_width(width: u64, default: u64) -> u64
+    ensures { λ r. ⌜ r ≡ cond (eqb default 0) width 0 ⌝ }
+{
+    if default == 0 { width } else { 0 }
+}
+
+// The locator of six numbers; where they stand for nothing held, one of no bits, which no field has.
+fn locator_from(numbers: &[u64; 6]) -> Locator
     ensures { λ r. ⌜ r ≡ locatorFrom (now (numbers .entry)) ⌝ }
 {
-    if 6 <= numbers.len() {
-        return locator_of(
-            numbers[0],
-            numbers[1],
-            numbers[2],
-            numbers[3],
-            numbers[4],
-            numbers[5],
-        );
+    let width = numbers[3];
+    let default = numbers[5];
+    match numbers[4] {
+        0 => locator_with(numbers, width, Held::Number(default, false)),
+        1 => locator_with(numbers, width, Held::Number(default, true)),
+        2 => locator_with(numbers, bytes_width(width, default), Held::Bytes),
+        _ => locator_with(numbers, 0, Held::Bytes),
     }
-    locator_of(
-        number_at(numbers, 0),
-        number_at(numbers, 1),
-        number_at(numbers, 2),
-        number_at(numbers, 3),
-        number_at(numbers, 4),
-        0,
-    )
 }
 
 // ---- lengths in numbers
@@ -279,17 +273,21 @@ pub extern "C" fn pktfmt_template(sheet: &[u8], buf: &mut [u8], answer: &mut [u6
     tell_verdict(answer, v)
 }
 
-// The locator of field i, six numbers; the sheet's own refusal, or access 1.
+// The locator of field i; the sheet's own refusal, or access 1. Six numbers either way.
 #[no_mangle]
-pub extern "C" fn pktfmt_field(sheet: &[u8], i: usize, answer: &mut [u64]) -> bool
-    ensures { λ r. ⌜ Told locatorNumbers (locatorIn (now (sheet .entry)) i) (now (answer .entry)) (now (answer .exit)) r ⌝ }
+pub extern "C" fn pktfmt_field(sheet: &[u8], i: usize, answer: &mut [u64; 6]) -> bool
+    ensures { λ r. ⌜ r ≡ isGiven (locatorIn (now (sheet .entry)) i) ⌝ }
+    ensures { λ _. ⌜ now (answer .exit) ≡ locatorTold (locatorIn (now (sheet .entry)) i) ⌝ }
 {
     match access::locate(sheet, i) {
         LocatorAnswer::Is(p) => {
             tell_locator(answer, p);
             true
         }
-        LocatorAnswer::Refused(reason) => tell_refusal(answer, reason),
+        LocatorAnswer::Refused(reason) => {
+            tell_no_locator(answer, reason);
+            false
+        }
     }
 }
 
@@ -341,7 +339,7 @@ pub extern "C" fn pktfmt_back(form: u8, first: u64, second: u64, y: u64, answer:
 
 // The number that is held at a locator, or access 1 to 3.
 #[no_mangle]
-pub extern "C" fn pktfmt_read_number(locator: &[u64], buf: &[u8], answer: &mut [u64]) -> bool
+pub extern "C" fn pktfmt_read_number(locator: &[u64; 6], buf: &[u8], answer: &mut [u64; 3]) -> bool
     ensures { λ r. ⌜ Told valueNumbers (readAt (locatorFrom (now (locator .entry))) (now (buf .entry)) false) (now (answer .entry)) (now (answer .exit)) r ⌝ }
 {
     match locator_from(locator).read_number(buf) {
@@ -355,7 +353,7 @@ pub extern "C" fn pktfmt_read_number(locator: &[u64], buf: &[u8], answer: &mut [
 
 // The index of the first of the bytes that are held at a locator, and how many they are; or access 1 to 3.
 #[no_mangle]
-pub extern "C" fn pktfmt_read_bytes(locator: &[u64], buf: &[u8], answer: &mut [u64]) -> bool
+pub extern "C" fn pktfmt_read_bytes(locator: &[u64; 6], buf: &[u8], answer: &mut [u64; 3]) -> bool
     ensures { λ r. ⌜ Told (spanNumbers (locatorFrom (now (locator .entry)))) (reachAt (locatorFrom (now (locator .entry))) (length (now (buf .entry))) true) (now (answer .entry)) (now (answer .exit)) r ⌝ }
 {
     let p = locator_from(locator);
@@ -374,14 +372,18 @@ pub extern "C" fn pktfmt_read_bytes(locator: &[u64], buf: &[u8], answer: &mut [u
 // Writes a number at a locator, and changes no other bit; or access 1 to 5, and nothing is changed.
 #[no_mangle]
 pub extern "C" fn pktfmt_write_number(
-    locator: &[u64],
+    locator: &[u64; 6],
     buf: &mut [u8],
     value: u64,
-    answer: &mut [u64],
+    answer: &mut [u64; 3],
 ) -> bool
     ensures { λ r. ⌜ Told nothing (writeCheckAt (locatorFrom (now (locator .entry))) (length (now (buf .entry))) (aNumber value)) (now (answer .entry)) (now (answer .exit)) r ⌝ }
     ensures { λ _. ⌜ now (buf .exit) ≡ applyAt (locatorFrom (now (locator .entry))) (now (buf .entry)) (aNumber value) ⌝ }
 {
+    if locator_from(locator).write_at_once(buf, value) {
+        return true;
+    }
+    // taken from the numbers again: what is kept for a refusal would be stored by every write
     let v = locator_from(locator).write_number(buf, value);
     tell_verdict(answer, v)
 }
@@ -389,10 +391,10 @@ pub extern "C" fn pktfmt_write_number(
 // Writes bytes at a locator, and changes no other bit; or access 1 to 4, and nothing is changed.
 #[no_mangle]
 pub extern "C" fn pktfmt_write_bytes(
-    locator: &[u64],
+    locator: &[u64; 6],
     buf: &mut [u8],
     bytes: &[u8],
-    answer: &mut [u64],
+    answer: &mut [u64; 3],
 ) -> bool
     ensures { λ r. ⌜ Told nothing (writeCheckAt (locatorFrom (now (locator .entry))) (length (now (buf .entry))) (someBytes (now (bytes .entry)))) (now (answer .entry)) (now (answer .exit)) r ⌝ }
     ensures { λ _. ⌜ now (buf .exit) ≡ applyAt (locatorFrom (now (locator .entry))) (now (buf .entry)) (someBytes (now (bytes .entry))) ⌝ }

@@ -1,8 +1,8 @@
 -- What the functions on runs ask: a run cut out of a window of 64 bits and pasted into it, bytes stored one after the other, whether a run fits.
 -- Assumes nothing.
 use mathlib.Core.Path.{_≡_, refl, sym, ap, _∙_, subst}
-use mathlib.Core.Bool.{Bool, true, false, cond, not}
-use mathlib.Core.List.{List, []}
+use mathlib.Core.Bool.{Bool, true, false, cond, _&&_}
+use mathlib.Core.List.{List}
 use Prim.Native.Nat.{ℕ, zero, suc, _+_, _-_, _*_, _/_, _%_, _^_, _≤_, _<_}
 use native.Mathlib.Nat.{mul-div-mul-right, mod-lt, mod-eq-of-lt, mod-one, add-mul, div-one, div-eq-of-lt}
 use native.Mathlib.Decide.{decLt, ℕ-discrete}
@@ -12,19 +12,20 @@ use lib.Dec.{ltb, lit<}
 use lib.ListN.{length, take, drop, set, length-set}
 use lib.Pow.{field, pow-pos, pow-add, split, shr-shr, shr-lt, shl-exact, high, low}
 use lib.Seq.{getD-set-same, getD-set-other}
-use borrow.Author.Tests.{leb-true, not-true, not-false, lt-ltb, le-ltb, le-leb, lt-leb}
+use borrow.Author.Tests.{lt-ltb, le-ltb}
+use Rattle.answer.proofs.Tests.{clash}
 use Rattle.octets.specs.Octets.{AreBytes, byte, be}
 use Rattle.bits.specs.declared.Fit.{Fit}
 use Rattle.bits.specs.declared.NumberWrite.{NumberWrite}
 use Rattle.bits.specs.declared.BytesWrite.{BytesWrite}
 use Rattle.bits.specs.Bits.{bit, num, value, touched}
 use Rattle.bits.specs.Writes.{newBit, put}
-use Rattle.bits.specs.Runs.{fitOf, readAs, readNumber, writeAs, writeAnswer, holdsBytes, bytesAt, bytesAnswer, BytesWritten}
+use Rattle.bits.specs.Runs.{fitOf, readAs, readNumber, writeAs, writeAnswer, isDone, bytesAnswer, bytesAs, bytesAt}
 use Rattle.bits.proofs.Num.{num-ext, num-digits, num-split, num-first, num-at}
 use Rattle.bits.proofs.Bits.{bit-same, value-lt, value-byte, value-be}
 use Rattle.bits.proofs.Put.{by-run, new-before, new-in, new-after, new-lt, put-ext, put-length, put-bytes}
 use Rattle.bits.proofs.Writes.{side-by-side, write-read, wrote-put}
-use Rattle.bits.specs.Working.{pasted}
+use Rattle.bits.specs.Working.{pasted, fits}
 
 -- ---- a field of a number of 64 bits
 
@@ -84,41 +85,41 @@ paste-none x w r v e small =
 paste-parts : (h m l w r v : ℕ) → m < 2 ^ w → l < 2 ^ r → pasted ((h * 2 ^ w + m) * 2 ^ r + l) w r v ≡ (h * 2 ^ w + v) * 2 ^ r + l
 paste-parts h m l w r v hm hl = rw (high (h * 2 ^ w + m) r hl, low (h * 2 ^ w + m) r hl, high h w hm)
 
--- ---- a run in the window of the 64 bits from its first byte on
+-- ---- a run in a window of 64 bits that begins with byte f
 
-module _ (b : List ℕ) (s w : ℕ) (narrow : s % 8 + w ≤ 64) where
-  abbrev from : ℕ
-  from = 8 * (s / 8)
+module _ (b : List ℕ) (s w f : ℕ) (from : 8 * f ≤ s) (narrow : s + w ≤ 8 * f + 64) where
+  abbrev skipped : ℕ
+  skipped = s - 8 * f
 
   abbrev below : ℕ
-  below = 64 - (s % 8 + w)
+  below = 64 - (s - 8 * f + w)
 
   -- any bits of the window: those before the run, the run, those after it
-  parts-of : (f : ℕ → ℕ) → num f from 64 ≡ (num f from (s % 8) * 2 ^ w + num f s w) * 2 ^ below + num f (s + w) below
-  parts-of f =
-      let len : 64 ≡ s % 8 + w + below = omega arith in
-      let start : from + s % 8 ≡ s = omega arith in
-      let end : from + (s % 8 + w) ≡ s + w = omega arith in
-      ap (num f from) len ∙ num-split f from (s % 8) w below ∙ rw (start, end)
+  parts-of : (g : ℕ → ℕ) → num g (8 * f) 64 ≡ (num g (8 * f) skipped * 2 ^ w + num g s w) * 2 ^ below + num g (s + w) below
+  parts-of g =
+      let len : 64 ≡ skipped + w + below = omega arith in
+      let start : 8 * f + skipped ≡ s = omega arith in
+      let end : 8 * f + (skipped + w) ≡ s + w = omega arith in
+      ap (num g (8 * f)) len ∙ num-split g (8 * f) skipped w below ∙ rw (start, end)
 
   -- the run, cut out of it
-  pub window-cut : value b (8 * (s / 8)) 64 / 2 ^ (64 - (s % 8 + w)) % 2 ^ w ≡ value b s w
+  pub window-cut : value b (8 * f) 64 / 2 ^ (64 - (s - 8 * f + w)) % 2 ^ w ≡ value b s w
   window-cut =
-      rw (parts-of (bit b), high (value b from (s % 8) * 2 ^ w + value b s w) below (value-lt b (s + w) below))
-      (low (value b from (s % 8)) w (value-lt b s w))
+      rw (parts-of (bit b), high (value b (8 * f) skipped * 2 ^ w + value b s w) below (value-lt b (s + w) below))
+      (low (value b (8 * f) skipped) w (value-lt b s w))
 
   -- with v pasted into the run, it spells the bits after the write
-  pub window-pasted : (v : ℕ) → v < 2 ^ w → pasted (value b (8 * (s / 8)) 64) w (64 - (s % 8 + w)) v ≡ num (newBit b s w v) (8 * (s / 8)) 64
+  pub window-pasted : (v : ℕ) → v < 2 ^ w → pasted (value b (8 * f) 64) w (64 - (s - 8 * f + w)) v ≡ num (newBit b s w v) (8 * f) 64
   window-pasted v small =
       ap (λ (x : ℕ). pasted x w below v) (parts-of (bit b))
-      ∙ paste-parts (value b from (s % 8)) (value b s w) (value b (s + w) below) w below v (value-lt b s w) (value-lt b (s + w) below)
+      ∙ paste-parts (value b (8 * f) skipped) (value b s w) (value b (s + w) below) w below v (value-lt b s w) (value-lt b (s + w) below)
       ∙ sym (parts-of new ∙ rw (before, inside, after))
     where
       new : ℕ → ℕ
       new = newBit b s w v
 
-      before : num new from (s % 8) ≡ value b from (s % 8)
-      before = num-ext new (bit b) from from (s % 8) (λ j h. new-before b s w v (from + j) (omega arith))
+      before : num new (8 * f) skipped ≡ value b (8 * f) skipped
+      before = num-ext new (bit b) (8 * f) (8 * f) skipped (λ j h. new-before b s w v (8 * f + j) (omega arith))
 
       inside : num new s w ≡ v
       inside = num-digits new s w v (new-in b s w v) ∙ mod-eq-of-lt small
@@ -137,27 +138,27 @@ put-wider b s w v t x l m =
     all : ℕ
     all = num (newBit b s w v) t x
 
--- so the bytes that the run touches, or more of them, stored from the window, write it
-pub window-stored : (b : List ℕ) (s w v n : ℕ) → s % 8 + w ≤ 64 → v < 2 ^ w → touched s w ≤ n → n ≤ 8
-    → put b (8 * (s / 8)) (8 * n) (pasted (value b (8 * (s / 8)) 64) w (64 - (s % 8 + w)) v / 2 ^ (64 - 8 * n)) ≡ put b s w v
-window-stored b s w v n narrow small all most =
+-- so the first n bytes of the window, which the run lies in, stored, write it
+pub window-stored : (b : List ℕ) (s w f v n : ℕ) → 8 * f ≤ s → s + w ≤ 8 * f + 8 * n → n ≤ 8 → v < 2 ^ w
+    → put b (8 * f) (8 * n) (pasted (value b (8 * f) 64) w (64 - (s - 8 * f + w)) v / 2 ^ (64 - 8 * n)) ≡ put b s w v
+window-stored b s w f v n from all most small =
     let len : 64 ≡ 8 * n + (64 - 8 * n) = omega arith in
-    let first : pasted (value b (8 * (s / 8)) 64) w (64 - (s % 8 + w)) v / 2 ^ (64 - 8 * n) ≡ num (newBit b s w v) (8 * (s / 8)) (8 * n) = (
-    ap (λ (x : ℕ). x / 2 ^ (64 - 8 * n)) (window-pasted b s w narrow v small ∙ ap (num (newBit b s w v) (8 * (s / 8))) len)
-    ∙ num-first (newBit b s w v) (new-lt b s w v) (8 * (s / 8)) (8 * n) (64 - 8 * n)
+    let first : pasted (value b (8 * f) 64) w (64 - (s - 8 * f + w)) v / 2 ^ (64 - 8 * n) ≡ num (newBit b s w v) (8 * f) (8 * n) = (
+    ap (λ (x : ℕ). x / 2 ^ (64 - 8 * n)) (window-pasted b s w f from (omega arith) v small ∙ ap (num (newBit b s w v) (8 * f)) len)
+    ∙ num-first (newBit b s w v) (new-lt b s w v) (8 * f) (8 * n) (64 - 8 * n)
     ) in
-    ap (put b (8 * (s / 8)) (8 * n)) first ∙ put-wider b s w v (8 * (s / 8)) (8 * n) (omega arith) (omega arith)
+    ap (put b (8 * f) (8 * n)) first ∙ put-wider b s w v (8 * f) (8 * n) from all
 
--- the two as the program has them: f the first byte, k the bits of it before the run, x the number of the 8 bytes from there on, n the bytes stored
-module _ (b : List ℕ) (bytes : AreBytes b) (s w : ℕ) (narrow : s % 8 + w ≤ 64) {f k x : ℕ} (f-is : f ≡ s / 8) (k-is : k ≡ s % 8) (x-is : x ≡ be b f 8) where
-  window : x ≡ value b (8 * (s / 8)) 64
-  window = x-is ∙ ap (λ (i : ℕ). be b i 8) f-is ∙ sym (value-be b bytes (s / 8) 8)
+-- the two as the program has them: f the first byte, k the bits from there to the run, x the number of the 8 bytes from there on, n the bytes stored
+module _ (b : List ℕ) (bytes : AreBytes b) (s w f : ℕ) (from : 8 * f ≤ s) {k x : ℕ} (k-is : k ≡ s - 8 * f) (x-is : x ≡ be b f 8) where
+  window : x ≡ value b (8 * f) 64
+  window = x-is ∙ sym (value-be b bytes f 8)
 
-  pub window-read : {r : ℕ} → r ≡ x / 2 ^ (64 - (k + w)) % 2 ^ w → r ≡ value b s w
-  window-read e = e ∙ rw (window, k-is) (window-cut b s w narrow)
+  pub window-read : {r : ℕ} → s + w ≤ 8 * f + 64 → r ≡ x / 2 ^ (64 - (k + w)) % 2 ^ w → r ≡ value b s w
+  window-read narrow e = e ∙ rw (window, k-is) (window-cut b s w f from narrow)
 
-  pub window-written : (v : ℕ) → v < 2 ^ w → {n y : ℕ} {c : List ℕ} → touched s w ≤ n → n ≤ 8 → y ≡ pasted x w (64 - (k + w)) v → c ≡ put b (8 * f) (8 * n) (y / 2 ^ (64 - 8 * n)) → c ≡ put b s w v
-  window-written v small {n} all most y-is e = e ∙ rw (y-is, window, k-is, f-is) (window-stored b s w v n narrow small all most)
+  pub window-written : (v : ℕ) → v < 2 ^ w → {n y : ℕ} {c : List ℕ} → s + w ≤ 8 * f + 8 * n → n ≤ 8 → y ≡ pasted x w (64 - (k + w)) v → c ≡ put b (8 * f) (8 * n) (y / 2 ^ (64 - 8 * n)) → c ≡ put b s w v
+  window-written v small {n} all most y-is e = e ∙ rw (y-is, window, k-is) (window-stored b s w f v n from all most small)
 
 -- ---- bytes stored one after the other
 
@@ -248,66 +249,111 @@ reversed-fits x =
 
 -- ---- whether a run fits
 
-module _ (n s w : ℕ) where
-  pub fit-wide : 8 < touched s w → fitOf n s w ≡ Fit.TooWide
-  unfolding fitOf
-  fit-wide h = rw (lt-ltb 8 (touched s w) h)
+-- one answer is no other: so it would be one of numbers
+never : {X : Type 0} → _≡_ {A = ℕ} 0 1 → X
+never z = absurd (omega arith)
 
-  pub fit-outside : touched s w ≤ 8 → n < s / 8 + touched s w → fitOf n s w ≡ Fit.Outside
+module _ (n h s w : ℕ) where
+  pub fit-wide : 8 < touched s w → fitOf n h s w ≡ Fit.TooWide
   unfolding fitOf
-  fit-outside h l = rw (le-ltb 8 (touched s w) h, lt-ltb (8 * n) (s + w) (omega arith))
+  fit-wide l = rw (lt-ltb 8 (touched s w) l)
 
-  pub fit-fits : touched s w ≤ 8 → s / 8 + touched s w ≤ n → fitOf n s w ≡ Fit.Fits
+  pub fit-outside : touched s w ≤ 8 → h < s / 8 + touched s w → fitOf n h s w ≡ Fit.Outside
   unfolding fitOf
-  fit-fits h l = rw (le-ltb 8 (touched s w) h, le-ltb (8 * n) (s + w) (omega arith))
+  fit-outside l m = rw (le-ltb 8 (touched s w) l, lt-ltb (8 * h) (s + w) (omega arith))
+
+  pub fit-short : touched s w ≤ 8 → s / 8 + touched s w ≤ h → n < h → fitOf n h s w ≡ Fit.Short
+  unfolding fitOf
+  fit-short l m t = rw (le-ltb 8 (touched s w) l, le-ltb (8 * h) (s + w) (omega arith), lt-ltb n h t)
+
+  pub fit-fits : touched s w ≤ 8 → s + w ≤ 8 * h → h ≤ n → fitOf n h s w ≡ Fit.Fits
+  unfolding fitOf
+  fit-fits l m t = rw (le-ltb 8 (touched s w) l, le-ltb (8 * h) (s + w) m, le-ltb n h t)
+
+  -- what is true of each of the four, where it is that, is true of what the run is
+  pub by-fit : (P : Fit → Type 0) → (8 < touched s w → P Fit.TooWide) → (touched s w ≤ 8 → 8 * h < s + w → P Fit.Outside)
+      → (touched s w ≤ 8 → s + w ≤ 8 * h → n < h → P Fit.Short) → (touched s w ≤ 8 → s + w ≤ 8 * h → h ≤ n → P Fit.Fits) → P (fitOf n h s w)
+  by-fit P wide outside short fits = go (decLt 8 (touched s w)) (decLt (8 * h) (s + w)) (decLt n h)
+    where
+      go : Dec (8 < touched s w) → Dec (8 * h < s + w) → Dec (n < h) → P (fitOf n h s w)
+      go (yes l) _ _ = rw (fit-wide l) (wide l)
+      go (no l) (yes m) _ = rw (fit-outside (omega arith) (omega arith)) (outside (omega arith) m)
+      go (no l) (no m) (yes t) = rw (fit-short (omega arith) (omega arith) t) (short (omega arith) (omega arith) t)
+      go (no l) (no m) (no t) = rw (fit-fits (omega arith) (omega arith) (omega arith)) (fits (omega arith) (omega arith) (omega arith))
 
   -- what it means to fit
-  pub fits-narrow : fitOf n s w ≡ Fit.Fits → (s % 8 + w ≤ 64) × (s / 8 + touched s w ≤ n)
-  fits-narrow e = go (decLt 8 (touched s w)) (decLt n (s / 8 + touched s w))
+  pub fits-is : fits (fitOf n h s w) ≡ true → fitOf n h s w ≡ Fit.Fits
+  fits-is = of (fitOf n h s w)
     where
-      go : Dec (8 < touched s w) → Dec (n < s / 8 + touched s w) → (s % 8 + w ≤ 64) × (s / 8 + touched s w ≤ n)
-      go (yes l) d = absurd (let q = fit-wide l in let z : _≡_ {A = ℕ} 0 1 = cc in omega arith)
-      go (no l) (yes m) = absurd (let q = fit-outside (omega arith) m in let z : _≡_ {A = ℕ} 0 1 = cc in omega arith)
-      go (no l) (no m) = (omega arith, omega arith)
+      of : (f : Fit) → fits f ≡ true → f ≡ Fit.Fits
+      of Fit.Fits e = refl
+      of Fit.TooWide e = clash (sym e)
+      of Fit.Outside e = clash (sym e)
+      of Fit.Short e = clash (sym e)
+
+  pub fits-narrow : fitOf n h s w ≡ Fit.Fits → (s % 8 + w ≤ 64) × (s + w ≤ 8 * n)
+  fits-narrow =
+      by-fit (λ (f : Fit). f ≡ Fit.Fits → (s % 8 + w ≤ 64) × (s + w ≤ 8 * n))
+      (λ _ e. never (cc)) (λ _ _ e. never (cc)) (λ _ _ _ e. never (cc)) (λ l m t _. (omega arith, omega arith))
 
 -- ---- whole bytes in a buffer
 
-module _ (b : List ℕ) (f n : ℕ) where
-  -- the part from f up to e, where e comes n bytes later
-  pub bytes-there : (e : ℕ) → e ≡ f + n → f + n ≤ length b → take (e - f) (drop f b) ≡ bytesAt b f n
-  unfolding bytesAt
-  bytes-there e later h = let len : e - f ≡ n = omega arith in rw (len, le-leb (f + n) (length b) h)
+module _ (n h f c : ℕ) where
+  pub bytes-outside : h < f + c → bytesAnswer n h f c ≡ BytesWrite.Outside
+  unfolding bytesAnswer
+  bytes-outside l = rw (lt-ltb h (f + c) l)
 
-  pub bytes-not-there : length b < f + n → bytesAt b f n ≡ []
-  unfolding bytesAt
-  bytes-not-there h = rw (lt-leb (f + n) (length b) h)
+  pub bytes-short : f + c ≤ h → n < h → bytesAnswer n h f c ≡ BytesWrite.Short
+  unfolding bytesAnswer
+  bytes-short l m = rw (le-ltb h (f + c) l, lt-ltb n h m)
 
--- ---- the answers
+  pub bytes-done : f + c ≤ h → h ≤ n → bytesAnswer n h f c ≡ BytesWrite.Done
+  unfolding bytesAnswer
+  bytes-done l m = rw (le-ltb h (f + c) l, le-ltb n h m)
 
--- a read and a write, by whether the run fits
-pub read-is : (b : List ℕ) (s w : ℕ) (f : Fit) → fitOf (length b) s w ≡ f → readNumber b s w ≡ readAs f (value b s w)
+  -- what is true of each of the three, where it is that, is true of the answer
+  pub by-place : (P : BytesWrite → Type 0) → (h < f + c → P BytesWrite.Outside) → (f + c ≤ h → n < h → P BytesWrite.Short) → (f + c ≤ h → h ≤ n → P BytesWrite.Done)
+      → P (bytesAnswer n h f c)
+  by-place P outside short done = go (decLt h (f + c)) (decLt n h)
+    where
+      go : Dec (h < f + c) → Dec (n < h) → P (bytesAnswer n h f c)
+      go (yes l) _ = rw (bytes-outside l) (outside l)
+      go (no l) (yes m) = rw (bytes-short (omega arith) m) (short (omega arith) m)
+      go (no l) (no m) = rw (bytes-done (omega arith) (omega arith)) (done (omega arith) (omega arith))
+
+  -- where it is done, they lie in the buffer
+  pub bytes-within : bytesAnswer n h f c ≡ BytesWrite.Done → f + c ≤ n
+  bytes-within = by-place (λ (r : BytesWrite). r ≡ BytesWrite.Done → f + c ≤ n) (λ _ e. never (cc)) (λ _ _ e. never (cc)) (λ l m _. omega arith)
+
+-- ---- the answers, by whether the run fits
+
+pub read-is : (b : List ℕ) (h s w : ℕ) (f : Fit) → fitOf (length b) h s w ≡ f → readNumber b h s w ≡ readAs f (value b s w)
 unfolding readNumber
-read-is b s w f e = ap (λ (x : Fit). readAs x (value b s w)) e
+read-is b h s w f e = ap (λ (x : Fit). readAs x (value b s w)) e
 
-pub write-is : (n s w v : ℕ) (f : Fit) → fitOf n s w ≡ f → writeAnswer n s w v ≡ writeAs f w v
+pub write-is : (n h s w v : ℕ) (f : Fit) → fitOf n h s w ≡ f → writeAnswer n h s w v ≡ writeAs f w v
 unfolding writeAnswer
-write-is n s w v f e = ap (λ (x : Fit). writeAs x w v) e
+write-is n h s w v f e = ap (λ (x : Fit). writeAs x w v) e
 
-pub write-large : (n s w v : ℕ) → fitOf n s w ≡ Fit.Fits → ltb v (2 ^ w) ≡ false → writeAnswer n s w v ≡ NumberWrite.TooLarge
-write-large n s w v e h = write-is n s w v Fit.Fits e ∙ ap (λ (t : Bool). cond t NumberWrite.Done NumberWrite.TooLarge) h
+pub write-large : (n h s w v : ℕ) → fitOf n h s w ≡ Fit.Fits → ltb v (2 ^ w) ≡ false → writeAnswer n h s w v ≡ NumberWrite.TooLarge
+write-large n h s w v e t = write-is n h s w v Fit.Fits e ∙ ap (λ (t : Bool). cond t NumberWrite.Done NumberWrite.TooLarge) t
 
-pub write-done : (n s w v : ℕ) → fitOf n s w ≡ Fit.Fits → ltb v (2 ^ w) ≡ true → writeAnswer n s w v ≡ NumberWrite.Done
-write-done n s w v e h = write-is n s w v Fit.Fits e ∙ ap (λ (t : Bool). cond t NumberWrite.Done NumberWrite.TooLarge) h
+pub write-done : (n h s w v : ℕ) → fitOf n h s w ≡ Fit.Fits → ltb v (2 ^ w) ≡ true → writeAnswer n h s w v ≡ NumberWrite.Done
+write-done n h s w v e t = write-is n h s w v Fit.Fits e ∙ ap (λ (t : Bool). cond t NumberWrite.Done NumberWrite.TooLarge) t
 
--- of whole bytes, by whether the run lies in the buffer, as the program's test has it
-module _ (b : List ℕ) (f n : ℕ) {inside : Bool} (is : inside ≡ holdsBytes b f n) where
-  pub bytes-outside : (v : ℕ) → not inside ≡ true → BytesWritten b b f n v BytesWrite.Outside
-  unfolding bytesAnswer
-  bytes-outside v h = record { answer = rw (← is, not-true inside h); bytes = refl }
+-- the part of a buffer that an answer gives: from f up to e, which comes c bytes later, or none
+-- a write is done where the run fits and holds the number
+pub done-is : (n h s w v : ℕ) → isDone (writeAnswer n h s w v) ≡ (fits (fitOf n h s w) && ltb v (2 ^ w))
+unfolding writeAnswer
+done-is n h s w v = of (fitOf n h s w) (ltb v (2 ^ w)) refl
+  where
+    of : (f : Fit) (small : Bool) → ltb v (2 ^ w) ≡ small → isDone (writeAs f w v) ≡ (fits f && small)
+    of Fit.Fits true e = rw e
+    of Fit.Fits false e = rw e
+    of Fit.TooWide small e = refl
+    of Fit.Outside small e = refl
+    of Fit.Short small e = refl
 
-  pub bytes-within : not inside ≡ false → f + n ≤ length b
-  bytes-within h = leb-true (f + n) (length b) (sym is ∙ not-false inside h)
-
-  pub bytes-done : (v : ℕ) {c : List ℕ} → not inside ≡ false → c ≡ put b (8 * f) (8 * n) v → BytesWritten b c f n v BytesWrite.Done
-  unfolding bytesAnswer
-  bytes-done v h e = record { answer = rw (← is, not-false inside h); bytes = e }
+pub bytes-part : (b : List ℕ) (h f c : ℕ) (r : BytesWrite) → r ≡ bytesAnswer (length b) h f c → bytesAs r (take c (drop f b)) ≡ bytesAt b h f c
+unfolding bytesAt
+bytes-part b h f c r e = ap (λ (x : BytesWrite). bytesAs x (take c (drop f b))) e

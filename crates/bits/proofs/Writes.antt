@@ -11,7 +11,7 @@ use native.Mathlib.Omega.{arith}
 use lib.ListN.{length, take, drop, length-drop}
 use lib.Pow.{pow-pos, pow-add, shr-shr, high}
 use lib.Seq.{length-take-le, getD-take, getD-drop}
-use borrow.Author.Tests.{lt-ltb, le-ltb, le-leb}
+use borrow.Author.Tests.{lt-ltb, le-ltb}
 use Rattle.octets.specs.Octets.{AreBytes, byte}
 use Rattle.bits.specs.Bits.{bit, value, spelled, touched}
 use Rattle.bits.specs.declared.NumberWrite.{NumberWrite}
@@ -198,24 +198,24 @@ write-bytes-read b f n h within =
 written-one : {A : Type 0} {a q r : A} {c d : List ℕ} (after : A → List ℕ) → q ≡ a → r ≡ a → c ≡ after q → d ≡ after r → (q ≡ r) × (c ≡ d)
 written-one after x y f g = let same = x ∙ sym y in (same, f ∙ ap after same ∙ sym g)
 
-pub number-written-one : {b c d : List ℕ} {s w v : ℕ} {q r : NumberWrite} → NumberWritten b c s w v q → NumberWritten b d s w v r → (q ≡ r) × (c ≡ d)
+pub number-written-one : {b c d : List ℕ} {h s w v : ℕ} {q r : NumberWrite} → NumberWritten b c h s w v q → NumberWritten b d h s w v r → (q ≡ r) × (c ≡ d)
 number-written-one {b} {s = s} {w} {v} x y =
     written-one (λ (q : NumberWrite). afterNumber q b (put b s w v)) (x .answer) (y .answer) (x .bytes) (y .bytes)
 
-pub bytes-written-one : {b c d : List ℕ} {f n v : ℕ} {q r : BytesWrite} → BytesWritten b c f n v q → BytesWritten b d f n v r → (q ≡ r) × (c ≡ d)
+pub bytes-written-one : {b c d : List ℕ} {h f n v : ℕ} {q r : BytesWrite} → BytesWritten b c h f n v q → BytesWritten b d h f n v r → (q ≡ r) × (c ≡ d)
 bytes-written-one {b} {f = f} {n} {v} x y =
     written-one (λ (q : BytesWrite). afterBytes q b (put b (8 * f) (8 * n) v)) (x .answer) (y .answer) (x .bytes) (y .bytes)
 
 -- ---- and where nothing stands against a write, the buffer is the one that `put` gives
 
-pub number-put : {b c : List ℕ} {s w v : ℕ} {r : NumberWrite} → touched s w ≤ 8 → s + w ≤ 8 * length b → v < 2 ^ w → NumberWritten b c s w v r → c ≡ put b s w v
+pub number-put : {b c : List ℕ} {h s w v : ℕ} {r : NumberWrite} → touched s w ≤ 8 → s + w ≤ 8 * h → h ≤ length b → v < 2 ^ w → NumberWritten b c h s w v r → c ≡ put b s w v
 unfolding writeAnswer fitOf
-number-put {b} {s = s} {w} {v} narrow within small x =
-    let done : writeAnswer (length b) s w v ≡ NumberWrite.Done = rw (le-ltb 8 (touched s w) narrow, le-ltb (8 * length b) (s + w) within, lt-ltb v (2 ^ w) small) in
+number-put {b} {h = h} {s} {w} {v} narrow within long small x =
+    let done : writeAnswer (length b) h s w v ≡ NumberWrite.Done = rw (le-ltb 8 (touched s w) narrow, le-ltb (8 * h) (s + w) within, le-ltb (length b) h long, lt-ltb v (2 ^ w) small) in
     x .bytes ∙ ap (λ (q : NumberWrite). afterNumber q b (put b s w v)) (x .answer ∙ done)
 
-pub bytes-put : {b c : List ℕ} {f n v : ℕ} {r : BytesWrite} → f + n ≤ length b → BytesWritten b c f n v r → c ≡ put b (8 * f) (8 * n) v
+pub bytes-put : {b c : List ℕ} {h f n v : ℕ} {r : BytesWrite} → f + n ≤ h → h ≤ length b → BytesWritten b c h f n v r → c ≡ put b (8 * f) (8 * n) v
 unfolding bytesAnswer
-bytes-put {b} {f = f} {n} {v} within x =
-    let done : bytesAnswer b f n ≡ BytesWrite.Done = rw (le-leb (f + n) (length b) within) in
+bytes-put {b} {h = h} {f} {n} {v} within long x =
+    let done : bytesAnswer (length b) h f n ≡ BytesWrite.Done = rw (le-ltb h (f + n) within, le-ltb (length b) h long) in
     x .bytes ∙ ap (λ (q : BytesWrite). afterBytes q b (put b (8 * f) (8 * n) v)) (x .answer ∙ done)

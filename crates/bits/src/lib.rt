@@ -1,18 +1,19 @@
 // Runs of bits of a buffer, in the order of RFC 791, Appendix B: bit 0 is the most significant bit of byte 0.
-// A number is read and written through the 8 bytes from its first one on, by shifts; a run of whole bytes is copied.
+// A run has to lie in the first so many bytes of its buffer (`within`): those of a header, or all.
+// A number is read and written through 8 bytes that hold its run, by shifts; a run of whole bytes is copied.
 use answer::PositionFault;
 use answer::Refusal;
 use number::Bits;
 use number::Bytes;
 ghost use mathlib.Core.Path.{_≡_};
-ghost use Prim.Native.Nat.{ℕ, _+_, _-_, _*_, _/_, _%_, _^_, _≤_, _<_};
+ghost use Prim.Native.Nat.{ℕ, _+_, _-_, _*_, _/_, _%_, _^_, _≤_, _<_, min};
 ghost use lib.ListN.{length};
-ghost use Rattle.octets.specs.Octets.{AreBytes};
-ghost use Rattle.bits.specs.Bits.{spelled, touched as touchedBy};
+ghost use Rattle.octets.specs.Octets.{AreBytes, be};
+ghost use Rattle.bits.specs.Bits.{value, spelled, touched as touchedBy};
 ghost use Rattle.bits.specs.Positions.{globalOf, endPos, endPosSays};
 ghost use Rattle.bits.specs.Writes.{put, putBytes};
-ghost use Rattle.bits.specs.Runs.{fitOf, readNumber, NumberWritten, holdsBytes, bytesAt, BytesWritten};
-ghost use Rattle.bits.specs.Working.{pasted};
+ghost use Rattle.bits.specs.Runs.{fitOf, readNumber, NumberWritten, NumberAtOnce, bytesAnswer, bytesAt, BytesWritten};
+ghost use Rattle.bits.specs.Working.{fits, pasted};
 
 // The position of a bit: its number, counted from the header's first bit on.
 pub struct BitPos {
@@ -25,17 +26,20 @@ pub enum EndPos {
     Refused(Refusal),
 }
 
-// Whether a run can be read and written as a number: not if it touches more than 8 bytes, nor if it does not lie in the buffer.
+// Whether a run can be read and written as a number: not if it touches more than 8 bytes, nor if it ends past the bytes that it has to lie in, nor if the
+// buffer is too short for those.
 enum Fit {
     Fits,
     TooWide,
     Outside,
+    Short,
 }
 
 pub enum NumberRead {
     Number(u64),
     TooWide,
     Outside,
+    Short,
 }
 
 // A number that has more bits than the run is too large for it.
@@ -43,12 +47,14 @@ pub enum NumberWrite {
     Done,
     TooWide,
     Outside,
+    Short,
     TooLarge,
 }
 
 pub enum BytesWrite {
     Done,
     Outside,
+    Short,
 }
 
 impl BitPos {
@@ -103,17 +109,52 @@ impl BitPos {
     }
 }
 
-fn fit_of(len: usize, start: BitPos, width: Bits) -> Fit
-    ensures { λ r. ⌜ r ≡ fitOf len (globalOf start) (width .0) ⌝ }
+impl Fit {
+    fn fits(self) -> bool
+        ensures { λ r. ⌜ r ≡ fits self ⌝ }
+    {
+        match self {
+            Fit::Fits => true,
+            Fit::TooWide => false,
+            Fit::Outside => false,
+            Fit::Short => false,
+        }
+    }
+}
+
+fn fit_of(len: usize, within: Bytes, start: BitPos, width: Bits) -> Fit
+    ensures { λ r. ⌜ r ≡ fitOf len (within .0) (globalOf start) (width .0) ⌝ }
 {
     let touched = start.touched(width).0;
     if 8 < touched {
         return Fit::TooWide;
     }
-    if (len as u64) < start.byte_pos().0 + touched {
+    if within.0 < start.byte_pos().0 + touched {
         return Fit::Outside;
     }
+    if (len as u64) < within.0 {
+        return Fit::Short;
+    }
     Fit::Fits
+}
+
+// ---- the 8 bytes that hold a run
+
+// Where they begin: with the run's first byte, or as much before it as the buffer ends too soon.
+fn window_at(len: usize, start: BitPos) -> usize
+    requires { ⌜ 8 ≤ len ⌝ }
+    ensures { λ r. ⌜ r ≡ min (globalOf start / 8) (len - 8) ⌝ }
+{
+    let first = start.byte_pos().0 as usize;
+    let last = len - 8;
+    if first < last { first } else { last }
+}
+
+// The bytes of a short buffer, and zeros after them: by two numbers, since a loop that copies bytes is compiled to a call, for which every read would pay.
+fn short_window(buf: &[u8]) -> u64
+    ensures { λ r. ⌜ r ≡ be (now (buf .entry)) 0 8 ⌝ }
+{
+    4294967296 * octets::be32(buf, 0) as u64 + octets::be32(buf, 4) as u64
 }
 
 // The w bits of x that follow its first `skipped` ones.
@@ -196,95 +237,156 @@ fn zero_out(buf: &mut [u8], from: usize, count: usize)
     }
 }
 
-// The number that the bits of a run spell.
-pub fn read_number(buf: &[u8], start: BitPos, width: Bits) -> NumberRead
-    ensures { λ r. ⌜ r ≡ readNumber (now (buf .entry)) (globalOf start) (width .0) ⌝ }
+// The number that a run spells, which fits.
+fn read_fitting(buf: &[u8], start: BitPos, width: Bits) -> u64
+    requires { ⌜ (globalOf start % 8 + width .0 ≤ 64) × (globalOf start + width .0 ≤ 8 * length (now buf)) ⌝ }
+    ensures { λ r. ⌜ r ≡ value (now (buf .entry)) (globalOf start) (width .0) ⌝ }
 {
-    match fit_of(buf.len(), start, width) {
+    let s = start.global.0;
+    if buf.len() < 8 {
+        return cut(short_window(buf), s, width.0);
+    }
+    let f = window_at(buf.len(), start);
+    let x = octets::be64(&buf[f..f + 8], 0);
+    cut(x, s - 8 * f as u64, width.0)
+}
+
+// The number that the bits of a run spell.
+pub fn read_number(buf: &[u8], within: Bytes, start: BitPos, width: Bits) -> NumberRead
+    ensures { λ r. ⌜ r ≡ readNumber (now (buf .entry)) (within .0) (globalOf start) (width .0) ⌝ }
+{
+    match fit_of(buf.len(), within, start, width) {
         Fit::TooWide => NumberRead::TooWide,
         Fit::Outside => NumberRead::Outside,
+        Fit::Short => NumberRead::Short,
+        Fit::Fits => NumberRead::Number(read_fitting(buf, start, width)),
+    }
+}
+
+// Writes a number, which has no more bits, into a run, which fits: the 8 bytes that hold it are stored again.
+fn write_window(buf: &mut [u8], start: BitPos, width: Bits, v: u64)
+    requires { ⌜ 8 ≤ length (now buf) ⌝ }
+    requires { ⌜ (globalOf start % 8 + width .0 ≤ 64) × (globalOf start + width .0 ≤ 8 * length (now buf)) ⌝ }
+    requires { ⌜ v < 2 ^ width .0 ⌝ }
+    ensures { λ _. ⌜ now (buf .exit) ≡ put (now (buf .entry)) (globalOf start) (width .0) v ⌝ }
+{
+    let f = window_at(buf.len(), start);
+    let x = octets::be64(&buf[f..f + 8], 0);
+    let skipped = start.global.0 - 8 * f as u64;
+    store(buf, f, 8, paste(x, skipped, width.0, v));
+}
+
+// The same: all of a short buffer is stored again.
+fn write_fitting(buf: &mut [u8], start: BitPos, width: Bits, v: u64)
+    requires { ⌜ (globalOf start % 8 + width .0 ≤ 64) × (globalOf start + width .0 ≤ 8 * length (now buf)) ⌝ }
+    requires { ⌜ v < 2 ^ width .0 ⌝ }
+    ensures { λ _. ⌜ now (buf .exit) ≡ put (now (buf .entry)) (globalOf start) (width .0) v ⌝ }
+{
+    if buf.len() < 8 {
+        let x = paste(short_window(buf), start.global.0, width.0, v);
+        store(buf, 0, buf.len(), x);
+    } else {
+        write_window(buf, start, width, v);
+    }
+}
+
+// Writes a number into the bits of a run, and into no other bit.
+pub fn write_number(
+    buf: &mut [u8],
+    within: Bytes,
+    start: BitPos,
+    width: Bits,
+    v: u64,
+) -> NumberWrite
+    ensures { λ r. ⌜ NumberWritten (now (buf .entry)) (now (buf .exit)) (within .0) (globalOf start) (width .0) v r ⌝ }
+{
+    match fit_of(buf.len(), within, start, width) {
+        Fit::TooWide => NumberWrite::TooWide,
+        Fit::Outside => NumberWrite::Outside,
+        Fit::Short => NumberWrite::Short,
         Fit::Fits => {
-            let x = octets::be64(buf, start.byte_pos().0 as usize);
-            NumberRead::Number(cut(x, start.bit_pos() as u64, width.0))
+            if !width.holds(v) {
+                return NumberWrite::TooLarge;
+            }
+            write_fitting(buf, start, width, v);
+            NumberWrite::Done
         }
     }
 }
 
-// Writes a number into the bits of a run that fits: the 8 bytes from its first one on are stored again, as far as the buffer goes.
-fn write_fitting(buf: &mut [u8], start: BitPos, width: Bits, v: u64) -> NumberWrite
-    requires { ⌜ fitOf (length (now buf)) (globalOf start) (width .0) ≡ Fit.Fits ⌝ }
-    ensures { λ r. ⌜ NumberWritten (now (buf .entry)) (now (buf .exit)) (globalOf start) (width .0) v r ⌝ }
+// Writes a number by one load and one store, where `write_number` would and the buffer has 8 bytes; says whether it did. Most writes are such, and this is small
+// enough to be compiled into where they are made.
+pub fn write_at_once(buf: &mut [u8], within: Bytes, start: BitPos, width: Bits, v: u64) -> bool
+    ensures { λ r. ⌜ NumberAtOnce (now (buf .entry)) (now (buf .exit)) (within .0) (globalOf start) (width .0) v r ⌝ }
 {
-    if !width.holds(v) {
-        return NumberWrite::TooLarge;
-    }
-    let from = start.byte_pos().0 as usize;
-    let x = paste(octets::be64(buf, from), start.bit_pos() as u64, width.0, v);
-    let room = buf.len() - from;
-    if 8 <= room {
-        store(buf, from, 8, x);
-        return NumberWrite::Done;
-    }
-    store(buf, from, room, x);
-    NumberWrite::Done
-}
-
-// Writes a number into the bits of a run, and into no other bit.
-pub fn write_number(buf: &mut [u8], start: BitPos, width: Bits, v: u64) -> NumberWrite
-    ensures { λ r. ⌜ NumberWritten (now (buf .entry)) (now (buf .exit)) (globalOf start) (width .0) v r ⌝ }
-{
-    match fit_of(buf.len(), start, width) {
-        Fit::TooWide => NumberWrite::TooWide,
-        Fit::Outside => NumberWrite::Outside,
-        Fit::Fits => write_fitting(buf, start, width, v),
-    }
-}
-
-// Whether a run of whole bytes lies in the buffer.
-pub fn holds_bytes(buf: &[u8], from: Bytes, count: Bytes) -> bool
-    ensures { λ r. ⌜ r ≡ holdsBytes (now (buf .entry)) (from .0) (count .0) ⌝ }
-{
-    let len = buf.len() as u64;
-    if len < from.0 {
+    if buf.len() < 8 {
         return false;
     }
-    if len - from.0 < count.0 {
+    let fit = fit_of(buf.len(), within, start, width);
+    if !(fit.fits() & width.holds(v)) {
         return false;
     }
+    write_window(buf, start, width, v);
     true
 }
 
-// A run of whole bytes, or an empty part where it does not lie in the buffer.
-pub fn read_bytes(buf: &[u8], from: Bytes, count: Bytes) -> &[u8]
-    ensures { λ r. ⌜ now r ≡ bytesAt (now (buf .entry)) (from .0) (count .0) ⌝ }
+// ---- whole bytes
+
+// Done, where a run of so many bytes lies where it has to.
+fn bytes_answer(len: usize, within: Bytes, from: Bytes, count: Bytes) -> BytesWrite
+    ensures { λ r. ⌜ r ≡ bytesAnswer len (within .0) (from .0) (count .0) ⌝ }
 {
-    if holds_bytes(buf, from, count) {
-        let a = from.0 as usize;
-        let e = a + count.0 as usize;
-        &buf[a..e]
-    } else {
-        &buf[..0]
+    if within.0 < from.0 {
+        return BytesWrite::Outside;
+    }
+    if within.0 - from.0 < count.0 {
+        return BytesWrite::Outside;
+    }
+    if (len as u64) < within.0 {
+        return BytesWrite::Short;
+    }
+    BytesWrite::Done
+}
+
+// A run of whole bytes, or an empty part where it does not lie where it has to.
+pub fn read_bytes(buf: &[u8], within: Bytes, from: Bytes, count: Bytes) -> &[u8]
+    ensures { λ r. ⌜ now r ≡ bytesAt (now (buf .entry)) (within .0) (from .0) (count .0) ⌝ }
+{
+    match bytes_answer(buf.len(), within, from, count) {
+        BytesWrite::Outside => &buf[..0],
+        BytesWrite::Short => &buf[..0],
+        BytesWrite::Done => {
+            let a = from.0 as usize;
+            let e = a + count.0 as usize;
+            &buf[a..e]
+        }
     }
 }
 
 // Writes a run of whole bytes, and no other byte.
-pub fn write_bytes(buf: &mut [u8], from: Bytes, bytes: &[u8]) -> BytesWrite
-    ensures { λ r. ⌜ BytesWritten (now (buf .entry)) (now (buf .exit)) (from .0) (length (now (bytes .entry))) (spelled (now (bytes .entry))) r ⌝ }
+pub fn write_bytes(buf: &mut [u8], within: Bytes, from: Bytes, bytes: &[u8]) -> BytesWrite
+    ensures { λ r. ⌜ BytesWritten (now (buf .entry)) (now (buf .exit)) (within .0) (from .0) (length (now (bytes .entry))) (spelled (now (bytes .entry))) r ⌝ }
 {
-    if !holds_bytes(buf, from, Bytes(bytes.len() as u64)) {
-        return BytesWrite::Outside;
+    match bytes_answer(buf.len(), within, from, Bytes(bytes.len() as u64)) {
+        BytesWrite::Outside => BytesWrite::Outside,
+        BytesWrite::Short => BytesWrite::Short,
+        BytesWrite::Done => {
+            copy_in(buf, from.0 as usize, bytes);
+            BytesWrite::Done
+        }
     }
-    copy_in(buf, from.0 as usize, bytes);
-    BytesWrite::Done
 }
 
 // Clears a run of whole bytes, and no other byte.
-pub fn clear_bytes(buf: &mut [u8], from: Bytes, count: Bytes) -> BytesWrite
-    ensures { λ r. ⌜ BytesWritten (now (buf .entry)) (now (buf .exit)) (from .0) (count .0) 0 r ⌝ }
+pub fn clear_bytes(buf: &mut [u8], within: Bytes, from: Bytes, count: Bytes) -> BytesWrite
+    ensures { λ r. ⌜ BytesWritten (now (buf .entry)) (now (buf .exit)) (within .0) (from .0) (count .0) 0 r ⌝ }
 {
-    if !holds_bytes(buf, from, count) {
-        return BytesWrite::Outside;
+    match bytes_answer(buf.len(), within, from, count) {
+        BytesWrite::Outside => BytesWrite::Outside,
+        BytesWrite::Short => BytesWrite::Short,
+        BytesWrite::Done => {
+            zero_out(buf, from.0 as usize, count.0 as usize);
+            BytesWrite::Done
+        }
     }
-    zero_out(buf, from.0 as usize, count.0 as usize);
-    BytesWrite::Done
 }

@@ -138,13 +138,14 @@ module _ (s : List ℕ) (fields-ok : fieldsCheck s ≡ accepted) (header-ok : he
         default-fits = fits (blockAt s i) f sound (f .default) refl;
         number = λ e. header-is s .0 header-ok .eight-bytes i h (narrow (blockAt s i) f sound e);
         boundary = λ e. header-is s .0 header-ok .on-boundary i h (is-slice e);
+        two-bytes = λ e. sound .slice-bits (is-slice e);
         whole-bytes = λ e. sound .slice-whole (is-slice e);
         free = λ e. not-fixed (blockAt s i) f sound (is-slice e) (f .default) refl;
       }
 
   pub good : Good (headerLayout s)
   unfolding headerLayout
-  good = good-listed (headerFieldAt s) (fieldCount s) good-field (header-is s .0 header-ok .whole)
+  good = let laid = header-is s .0 header-ok in good-listed (headerFieldAt s) (fieldCount s) good-field (laid .whole) (omega (arith, laid .whole, laid .most))
 
   -- each field ends with its last bit
   pub field-end : (i : ℕ) → i < fieldCount s → endPos (startAt s i) (widthOf (fieldAt s i)) ≡ gives (startAt s i + widthOf (fieldAt s i) - 1)

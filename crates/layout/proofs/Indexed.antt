@@ -8,6 +8,7 @@ use native.Mathlib.Nat.{le-of-suc-le-suc, le-of-lt, eq-or-lt-of-le, add-zero, ad
 use native.Mathlib.Numerals.{add-one}
 use native.Mathlib.Omega.{arith}
 use lib.ListN.{length, take}
+use Rattle.number.specs.Numbers.{maxBits}
 use Rattle.layout.specs.Layout.{HeaderField, field, bits, start, GoodField, Good}
 use Rattle.layout.specs.Indexed.{fieldsFrom, position}
 
@@ -72,10 +73,11 @@ module _ (g : ℕ → HeaderField) where
   pub start-listed : (n i : ℕ) → i ≤ n → start (fieldsFrom g 0 n) i ≡ position g i
   start-listed n i h = ap bits (take-from 0 n i h) ∙ bits-listed i
 
-  -- fields that are good at their positions, in whole bytes, are a good list
-  pub good-listed : (n : ℕ) → ((i : ℕ) → i < n → GoodField (position g i) (g i)) → position g n % 8 ≡ 0 → Good (fieldsFrom g 0 n)
-  good-listed n each whole = record {
+  -- fields that are good at their positions, in whole bytes and not too many, are a good list
+  pub good-listed : (n : ℕ) → ((i : ℕ) → i < n → GoodField (position g i) (g i)) → position g n % 8 ≡ 0 → position g n ≤ maxBits → Good (fieldsFrom g 0 n)
+  good-listed n each whole most = record {
     whole = rw (bits-listed n) whole;
+    most = rw (bits-listed n) most;
     each = λ i h.
         let l : i < n = rw (length-listed n) at h in
         rw (start-listed n i (le-of-lt l), field-listed n i l) (each i l);

@@ -1,5 +1,5 @@
 -- Every text that is printed has at most 40,000 bytes: a refusal is one short line; a listing has at most 64 fields, a template of at most 8,192 bytes, three
--- lengths, and 8 conditions with at most 24 ranges each. Assumes nothing.
+-- lengths, and 8 conditions with at most 24 ranges each. It is shown of 50,689 bytes at most, which print what longer ones print. Assumes nothing.
 use mathlib.Core.Path.{_≡_, refl}
 use mathlib.Core.Bool.{Bool, true, false, cond, _&&_}
 use mathlib.Core.List.{List}
@@ -9,7 +9,7 @@ use native.Mathlib.Nat.{le-refl, lt-of-le-of-lt, suc-mul}
 use native.Mathlib.Decide.{decLt}
 use native.Mathlib.Omega.{arith}
 use lib.Dec.{ltb}
-use lib.ListN.{length, length-append}
+use lib.ListN.{length, take, length-append, length-take}
 use borrow.Author.Tests.{ltb-true, ltb-false, le-ltb}
 use Rattle.text.specs.Text.{spaced}
 use Rattle.text.proofs.Lengths.{no-words-length, spaced-length, line-length, texts-length}
@@ -44,6 +44,7 @@ use Rattle.lines.proofs.Lengths.{refusal-length, header-length, field-length, t
 use Rattle.listing.specs.Listing.{fieldText, slotText, rangesFrom, condText, firstCond, listing, textOf, printed}
 use Rattle.listing.proofs.Wrote.{spaced-append}
 use Rattle.listing.proofs.Told.{template-bytes}
+use Rattle.listing.proofs.Front.{printed-front}
 
 -- ---- the numbers of a range
 
@@ -142,7 +143,7 @@ module _ (s : List ℕ) (ok : Accepted s) where
 
 -- ---- every text
 
-module _ (s : List ℕ) (addressed : length s < 2 ^ 64) where
+module _ (s : List ℕ) (few : length s ≤ 50689) where
   -- room 1 is no greater number, and its place is the block count
   template-within : Within (blockCount s) (templateCheck s 8192)
   unfolding templateCheck
@@ -150,8 +151,11 @@ module _ (s : List ℕ) (addressed : length s < 2 ^ 64) where
 
   of-answer : (x : Check) → templateCheck s 8192 ≡ x → Within (blockCount s) x → length (textOf s x) ≤ 40000
   of-answer (gives _) is w = let fits = room-is s 8192 .0 is in listing-length s (fits .0) (fits .1)
-  of-answer (refused g n at) is (stops few near) = omega (arith, refusal-length g n at (omega arith) (omega arith))
+  of-answer (refused g n at) is (stops small near) = omega (arith, refusal-length g n at (omega arith) (omega arith))
 
-  pub every-listing : length (printed s) ≤ 40000
+  front-length : length (printed s) ≤ 40000
   unfolding printed
-  every-listing = of-answer (templateCheck s 8192) refl template-within
+  front-length = of-answer (templateCheck s 8192) refl template-within
+
+pub every-listing : (s : List ℕ) → length (printed s) ≤ 40000
+every-listing s = rw (← (printed-front s 50689 (le-refl _))) (front-length (take 50689 s) (simp length-take (omega arith)))

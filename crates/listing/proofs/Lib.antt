@@ -1,4 +1,5 @@
 pub mod Wrote
 pub mod Told
+pub mod Front
 pub mod Bound
 pub mod Whole

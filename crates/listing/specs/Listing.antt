@@ -66,3 +66,12 @@ printed s = textOf s (templateCheck s 8192)
 pub record Listed (s b b' : List ℕ) (r : ℕ) : Type 0 where
   pub bytes : b' ≡ take (length b) (printed s) ++ drop (length (printed s)) b
   pub count : r ≡ min (length (printed s)) (length b)
+
+-- the text at the front of a buffer b, whole, with the rest of b as it was: the bytes b' after it, and how many of them the text has
+pub record WholeListed (s b b' : List ℕ) (r : ℕ) : Type 0 where
+  pub bytes : b' ≡ printed s ++ drop (length (printed s)) b
+  pub count : r ≡ length (printed s)
+
+-- the text of an input s, of which n bytes were read into an array a: all of s, or of an s that is longer than a its front
+pub record InputListed (a : List ℕ) (n : ℕ) (b b' : List ℕ) (r : ℕ) : Type 0 where
+  pub whole : (s : List ℕ) → take (length a) s ≡ take n a → WholeListed s b b' r

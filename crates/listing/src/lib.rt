@@ -17,7 +17,7 @@ ghost use Rattle.layout.specs.Layout.{template};
 ghost use Rattle.header.specs.Starts.{headerLayout};
 ghost use Rattle.header.specs.Step.{headerBytes};
 ghost use Rattle.definition.specs.Definition.{Accepted};
-ghost use Rattle.listing.specs.Listing.{fieldText, slotText, rangesFrom, condText, listing, printed, Listed};
+ghost use Rattle.listing.specs.Listing.{fieldText, slotText, rangesFrom, condText, listing, printed, Listed, InputListed};
 
 // The lines of the first n fields.
 fn put_fields(out: &mut [u8], to: Cursor, s: &[u8], n: usize) -> Cursor
@@ -131,4 +131,12 @@ pub fn list(s: &[u8], out: &mut [u8]) -> usize
 {
     let to = put_text(out, s);
     text::filled(out, to)
+}
+
+// The whole text of an input at the front of `out`: how many bytes it has. `input` is what it was read into, and n how many bytes were read: one more than any
+// sheet has shows that there is no sheet, whatever comes after.
+pub fn list_input(input: &[u8; 50689], n: usize, out: &mut [u8; 40000]) -> usize
+    ensures { λ r. ⌜ InputListed (now (input .entry)) n (now (out .entry)) (now (out .exit)) r ⌝ }
+{
+    list(part(input, 0, n), out)
 }

@@ -1,1 +1,3 @@
 pub mod Reached
+pub mod Stands
+pub mod AtField

@@ -1,1 +1,3 @@
 pub mod Locator
+pub mod Stands
+pub mod Working

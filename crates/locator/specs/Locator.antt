@@ -1,13 +1,14 @@
 -- Reads and writes at the locator of a field. A locator is a value that anyone can make up, so access 1 to 5 are stated here of any; `access` shows
 -- that at the locators of an accepted sheet they are those of its fields. Assumes nothing.
 use mathlib.Core.Path.{_≡_}
-use mathlib.Core.Bool.{Bool, true, false, not, _&&_, Bool·beq}
+use mathlib.Core.Bool.{Bool, true, false, cond, not, _&&_, Bool·beq}
 use mathlib.Core.List.{List, []}
-use Prim.Native.Nat.{ℕ, _+_, _*_, _%_}
+use Prim.Native.Nat.{ℕ, _+_, _*_, _%_, _^_}
 use lib.Dec.{leb, ltb, eqb}
 use lib.ListN.{length}
 use Rattle.answer.specs.declared.Verdict.{Verdict}
-use Rattle.answer.specs.Paper.{Answer, gives, refused, Check, refusalSays, verdictSays, _andThen_}
+use Rattle.answer.specs.Paper.{Answer, gives, refused, Check, isGiven, refusalSays, verdictSays, _andThen_}
+use Rattle.number.specs.Numbers.{maxBytes}
 use Rattle.bits.specs.Bits.{touched}
 use Rattle.bits.specs.Positions.{globalOf}
 use Rattle.bits.specs.Writes.{put}
@@ -32,14 +33,26 @@ abbrev pub heldIsBytes : Held → Bool
 heldIsBytes (Held.Number default fixed) = false
 heldIsBytes Held.Bytes = true
 
--- a number touches at most 8 bytes; bytes are whole ones, on a byte boundary
-abbrev pub hasShape : Held → ℕ → ℕ → Bool
-hasShape (Held.Number default fixed) s w = leb (touched s w) 8
-hasShape Held.Bytes s w = eqb (s % 8) 0 && eqb (w % 8) 0
+-- a number, with its default within w bits, one at least
+abbrev pub isNumberOf : Held → ℕ → Bool
+isNumberOf (Held.Number default fixed) w = leb 1 w && ltb default (2 ^ w)
+isNumberOf Held.Bytes w = false
 
--- a field can stand there: it ends in the header, and has the shape of what it holds
+-- bytes: two or more whole ones, on a byte boundary
+abbrev pub isBytesOf : Held → ℕ → ℕ → Bool
+isBytesOf (Held.Number default fixed) s w = false
+isBytesOf Held.Bytes s w = (eqb (s % 8) 0 && eqb (w % 8) 0) && leb 16 w
+
+-- a run of w bits from bit s on can hold it; a number touches at most 8 bytes
+abbrev pub hasShape : Held → ℕ → ℕ → Bool
+hasShape (Held.Number default fixed) s w = isNumberOf (Held.Number default fixed) w && leb (touched s w) 8
+hasShape Held.Bytes s w = isBytesOf Held.Bytes s w
+
+-- a field can stand there: the header is not too long, the field ends in it, and has the shape of what it holds. This is so exactly where some good header has a
+-- field that stands so: `Stands` says it, and `proofs/Stands: locator-is` shows it
 unfoldable pub isLocator : Locator → Bool
-isLocator p = leb (firstBit p + locatorWidth p) (8 * locatorHeader p) && hasShape (p .held) (firstBit p) (locatorWidth p)
+isLocator p =
+    (leb (locatorHeader p) maxBytes && leb (firstBit p + locatorWidth p) (8 * locatorHeader p)) && hasShape (p .held) (firstBit p) (locatorWidth p)
 
 -- the field there, as a header has it; bytes are never fixed, and so their default is not asked for
 abbrev pub heldDefault : Held → ℕ
@@ -74,6 +87,11 @@ applyAt p b v = after (writeCheckAt p (length b) v) (put b (firstBit p) (locator
 pub record WrittenAt (p : Locator) (b b' : List ℕ) (v : Value) (r : Verdict) : Type 0 where
   pub answer : verdictSays r ≡ writeCheckAt p (length b) v
   pub bytes : b' ≡ applyAt p b v
+
+-- a write at once is done where the write is accepted and the buffer has 8 bytes
+pub record WrittenAtOnce (p : Locator) (b b' : List ℕ) (v : ℕ) (r : Bool) : Type 0 where
+  pub answer : r ≡ (leb 8 (length b) && isGiven (writeCheckAt p (length b) (number v)))
+  pub bytes : b' ≡ cond r (applyAt p b (number v)) b
 
 -- ---- what the program's answers say
 

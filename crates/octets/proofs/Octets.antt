@@ -5,7 +5,7 @@ use mathlib.Core.Bool.{Bool, true, false, _&&_, true≢false}
 use mathlib.Core.List.{List, [], _∷_}
 use mathlib.Core.Logic.{_↔_}
 use Prim.Native.Nat.{ℕ, zero, suc, _+_, _-_, _*_, _^_, min, _≤_, _<_}
-use native.Mathlib.Nat.{add-zero, add-suc, add-assoc, mul-comm, pow-suc, pow-zero}
+use native.Mathlib.Nat.{zero-add, add-zero, add-suc, add-assoc, mul-comm, pow-suc, pow-zero}
 use native.Mathlib.Decide.{decLe, decLt, ℕ-discrete}
 use native.Mathlib.Numerals.{add-one}
 use native.Mathlib.Omega.{arith}
@@ -99,6 +99,12 @@ pub be-alike : (s t : List ℕ) → Alike s t → (at n : ℕ) → be s at n ≡
 unfolding be
 be-alike s t h at zero = refl
 be-alike s t h at (suc n) = rw (be-alike s t h at n, h (at + n))
+
+-- in the m bytes from an offset on
+pub be-part : (s : List ℕ) (at m n : ℕ) → n ≤ m → be (take m (drop at s)) 0 n ≡ be s at n
+unfolding be
+be-part s at m zero h = refl
+be-part s at m (suc n) h = rw (be-part s at m n (omega arith), zero-add, getD-take m (drop at s) n 0 h, getD-drop at s n 0)
 
 -- two numbers read one after the other in what lies from an offset on are one number there
 pub be-join : (s : List ℕ) (at m n : ℕ) {t : List ℕ} {x y : ℕ} → t ≡ drop at s → x ≡ be t 0 m → y ≡ be t m n → 256 ^ n * x + y ≡ be s at (m + n)

@@ -1,6 +1,19 @@
-// Packed texts, for the programs that test: runs of bytes, each after a gap. A run is 2 bytes for the gap, big-endian, which is how many zeros stand before
-// it; 1 byte for its count; and as many bytes. A text is unpacked over zeros, whole or in pieces.
-ghost use Prim.Native.Nat.{_<_, _^_};
+// What the programs that read stored files share: the tally of their answers, numbers of two bytes, and packed texts. A packed text is runs of bytes, each after
+// a gap. A run is 2 bytes for the gap, big-endian, which is how many zeros stand before it; 1 byte for its count; and as many bytes. A text is unpacked over
+// zeros, whole or in pieces.
+mod tally;
+
+pub use tally::Tally;
+ghost use mathlib.Core.Path.{_≡_};
+ghost use Prim.Native.Nat.{_<_, _≤_, _^_};
+ghost use Rattle.octets.specs.Octets.{be};
+
+// A number of two bytes.
+pub fn two(b: &[u8], at: usize) -> usize
+    ensures { λ r. ⌜ (r ≡ be (now (b .entry)) at 2) × (r ≤ 65535) ⌝ }
+{
+    octets::be16(b, at) as usize
+}
 
 // No text is longer unpacked.
 const LONGEST: usize = 4294967296;

@@ -69,9 +69,9 @@ module _ (b : List ℕ) (few : statedBytesAt + statedCount b ≤ checkAt) (span 
 
 -- as many as the run has: the run holds what they spell
 pub stated-filled : {buf c part stated : List ℕ} {f n : ℕ} {r : BytesWrite} → part ≡ stated → length stated ≡ n → f + n ≤ length buf
-    → BytesWritten buf c f (length part) (spelled part) r → c ≡ put buf (8 * f) (8 * n) (spelled stated)
+    → BytesWritten buf c (length buf) f (length part) (spelled part) r → c ≡ put buf (8 * f) (8 * n) (spelled stated)
 stated-filled {buf} {stated = stated} {f} {n} same count room w =
-    bytes-put (rw (same, count) room) w ∙ ap (λ (l : List ℕ). put buf (8 * f) (8 * length l) (spelled l)) same
+    bytes-put (rw (same, count) room) (omega arith) w ∙ ap (λ (l : List ℕ). put buf (8 * f) (8 * length l) (spelled l)) same
     ∙ ap (λ (m : ℕ). put buf (8 * f) (8 * m) (spelled stated)) count
 
 -- ---- a field that can be filled, by the kind of its default
@@ -83,9 +83,9 @@ module _ {buf b : List ℕ} {f : Field} {s : ℕ} (h : Fillable buf b f s) where
     no-slice true q = absurd (h .sound .number-field v e (same-type (f .repr) BuiltinTypes.ByteSlice q))
     no-slice false q = refl
 
-    pub number-filled : {c : List ℕ} {at : ℕ} {r : NumberWrite} → at ≡ s → NumberWritten buf c at (widthOf f) v r → c ≡ put buf s (widthOf f) (defaultNumber b (f .default))
+    pub number-filled : {c : List ℕ} {at : ℕ} {r : NumberWrite} → at ≡ s → NumberWritten buf c (length buf) at (widthOf f) v r → c ≡ put buf s (widthOf f) (defaultNumber b (f .default))
     number-filled at-start w =
-        number-put (h .good .number (no-slice (isSlice (f .repr)) refl)) (h .room) (h .sound .number-fits v e) (rw at-start at w)
+        number-put (h .good .number (no-slice (isSlice (f .repr)) refl)) (h .room) (omega arith) (h .sound .number-fits v e) (rw at-start at w)
         ∙ ap (λ (d : DefaultVal). put buf s (widthOf f) (defaultNumber b d)) (sym e)
 
   -- bytes, which start at a byte and are whole

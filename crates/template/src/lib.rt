@@ -33,10 +33,11 @@ fn fill_bytes(buf: &mut [u8], from: Bytes, count: Bytes, b: &[u8], span: Span)
     requires { ⌜ (span .len ≡ count .0) ⊎ (span .len ≡ 0) ⌝ }
     ensures { λ _. ⌜ now (buf .exit) ≡ put (now (buf .entry)) (8 * from .0) (8 * count .0) (spelled (slice (span .at) (span .at + span .len) (now (b .entry)))) ⌝ }
 {
+    let all = Bytes(buf.len() as u64);
     if span.len == 0 {
-        bits::clear_bytes(buf, from, count);
+        bits::clear_bytes(buf, all, from, count);
     } else {
-        bits::write_bytes(buf, from, part(b, span.at, span.at + span.len));
+        bits::write_bytes(buf, all, from, part(b, span.at, span.at + span.len));
     }
 }
 
@@ -49,7 +50,8 @@ fn fill_field(buf: &mut [u8], b: &[u8], f: Field, start: Bits)
     let default = f.default;
     match default {
         DefaultVal::Num(n) => {
-            bits::write_number(buf, BitPos::new(start), width, n);
+            let all = Bytes(buf.len() as u64);
+            bits::write_number(buf, all, BitPos::new(start), width, n);
         }
         DefaultVal::Bool(_) => {} // no field has one
         DefaultVal::Bytes(span) => {

@@ -3,10 +3,11 @@
 // file has for them, and how many did not.
 use access::LocatorAnswer;
 use answer::Verdict;
-use libc::STDOUT_FILENO;
 use locator::Locator;
 use locator::NumberAnswer;
-ghost use Prim.Native.Nat.{_+_, _*_, _≤_};
+use packed::Tally;
+use streams::Input;
+ghost use Prim.Native.Nat.{_*_, _≤_};
 
 // ---- the buffer before and after an operation
 
@@ -128,103 +129,65 @@ fn replay_one(s: &[u8], op: &[u8], bytes: &[u8], differ: &[u8]) -> bool {
 
 // ---- the records
 
-fn tell(nth: u64, op: u16) {
-    io::print_decimal(STDOUT_FILENO, nth);
-    io::write_all(STDOUT_FILENO, b" ");
-    io::print_decimal(STDOUT_FILENO, op as u64);
-    io::write_all(STDOUT_FILENO, b" is wrong\n");
-}
-
-// How many operations were right and how many were not, and how many bytes they are.
-struct Tally {
-    right: u64,
-    wrong: u64,
+// How the operations turned out so far, and how many bytes the last ones are.
+struct Replayed {
+    tally: Tally,
     size: usize,
 }
 
-// A number of two bytes.
-fn two(b: &[u8], at: usize) -> usize
-    ensures { λ r. ⌜ r ≤ 65535 ⌝ }
+// n operations on a sheet, one behind the other. Where the sheet is not whole, all of them are wrong.
+fn replay_operations(tally: Tally, s: &[u8], whole: bool, ops: &[u8], n: u16) -> Replayed
+    ensures { λ r. ⌜ r .size ≤ 131092 * 65535 ⌝ }
 {
-    octets::be16(b, at) as usize
-}
-
-// n operations on a sheet, one behind the other.
-fn replay_operations(nth: u64, s: &[u8], ops: &[u8], n: u16) -> Tally
-    ensures { λ r. ⌜ (r .right + r .wrong ≤ 65535) × (r .size ≤ 131092 * 65535) ⌝ }
-{
-    let mut right: u64 = 0;
-    let mut wrong: u64 = 0;
+    let mut tally = tally;
     let mut at: usize = 0;
-    for k in 0..n {
+    for _ in 0..n {
         let op = octets::part(ops, at, at + 22);
-        let c = at + 22 + two(op, 13);
-        let e = c + two(op, 20);
-        if replay_one(
+        let c = at + 22 + packed::two(op, 13);
+        let e = c + packed::two(op, 20);
+        let right = replay_one(
             s,
             op,
             octets::part(ops, at + 22, c),
             octets::part(ops, c, e),
-        ) {
-            right += 1;
-        } else {
-            tell(nth, k);
-            wrong += 1;
-        }
+        );
+        tally = tally.with(whole & right);
         at = e;
     }
-    Tally {
-        right,
-        wrong,
-        size: at,
-    }
+    Replayed { tally, size: at }
 }
 
-// A record: its head, the packed sheet, the operations. Where the packed sheet goes on past the sheet's end, all of them are wrong.
-fn replay_record(nth: u64, record: &[u8]) -> Tally
-    ensures { λ r. ⌜ (r .right + r .wrong ≤ 65535) × (r .size ≤ 131093 * 65536) ⌝ }
+// A record: its head, the packed sheet, the operations.
+fn replay_record(tally: Tally, record: &[u8]) -> Replayed
+    ensures { λ r. ⌜ r .size ≤ 131093 * 65536 ⌝ }
 {
-    let p = 6 + two(record, 0);
-    let len = two(record, 2);
+    let p = 6 + packed::two(record, 0);
+    let len = packed::two(record, 2);
     let n = octets::be16(record, 4);
     let mut sheet = io::large_buffer();
-    let end = packed::unpack(octets::part(record, 6, p), 0, &mut sheet);
+    let whole = packed::unpack(octets::part(record, 6, p), 0, &mut sheet) <= len;
     let ops = octets::part(record, p, record.len());
-    let t = replay_operations(nth, octets::part(&sheet, 0, len), ops, n);
-    let size = p + t.size;
-    if len < end {
-        return Tally {
-            right: 0,
-            wrong: t.right + t.wrong,
-            size,
-        };
-    }
-    Tally {
-        right: t.right,
-        wrong: t.wrong,
-        size,
+    let r = replay_operations(tally, octets::part(&sheet, 0, len), whole, ops, n);
+    let tally = r.tally;
+    Replayed {
+        tally,
+        size: p + r.size,
     }
 }
 
 // Record after record up to the end of the file, or a thousand.
 fn replay_all(file: &[u8]) -> Tally {
-    let mut right: u64 = 0;
-    let mut wrong: u64 = 0;
+    let mut tally = Tally::NONE;
     let mut at: usize = 0;
-    for i in 0..1000u64 {
+    for _ in 0..1000u64 {
         if file.len() <= at {
             break;
         }
-        let t = replay_record(i, octets::part(file, at, file.len()));
-        right += t.right;
-        wrong += t.wrong;
-        at += t.size;
+        let r = replay_record(tally, octets::part(file, at, file.len()));
+        tally = r.tally;
+        at += r.size;
     }
-    Tally {
-        right,
-        wrong,
-        size: at,
-    }
+    tally
 }
 
 // Room for the file.
@@ -233,17 +196,12 @@ fn large() -> [u8; 1048576] {
 }
 
 fn main() {
-    let fd = os::open_read(b"accesses");
-    if fd < 0 {
-        os::fail(b"accesses");
-        return;
-    }
     let mut file = large();
-    let n = io::read_full(fd, &mut file);
-    libc::close(fd);
+    let Input::Bytes(n) = streams::read_file(b"accesses", &mut file) else {
+        return;
+    };
     let tally = replay_all(octets::part(&file, 0, n));
-    io::print_decimal(STDOUT_FILENO, tally.right);
-    io::write_all(STDOUT_FILENO, b" right, ");
-    io::print_decimal(STDOUT_FILENO, tally.wrong);
-    io::write_all(STDOUT_FILENO, b" wrong\n");
+    if !tally.print(b"") {
+        os::fail(b"test_accesses: cannot write standard output");
+    }
 }

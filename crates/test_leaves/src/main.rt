@@ -50,7 +50,7 @@ fn ranges() -> bool {
 fn passes(check: u16) -> bool {
     let example = [0x00u8, 0x01, 0xf2, 0x03, 0xf4, 0xf5, 0xf6, 0xf7];
     let mut b = [0u8; blocks::SIZE];
-    bits::write_bytes(&mut b, Bytes(0), &example);
+    bits::write_bytes(&mut b, Bytes(8), Bytes(0), &example);
     b[blocks::SIZE - 2] = (check / 256) as u8;
     b[blocks::SIZE - 1] = (check % 256) as u8;
     blocks::check::check_holds(&b)
@@ -136,21 +136,24 @@ fn widths() -> bool {
     (touched(7, 57) == 8) & (touched(7, 58) == 9) & (touched(1, 64) == 9)
 }
 
-// Two bytes written over five from byte `from` on, and the five as one number; 0 where they do not lie there.
-fn copied(from: u64) -> u64 {
+// Two bytes written over five from byte `from` on, and the five as one number; 0 where they do not lie in the first so many, 1 where there are not so many.
+fn copied(within: u64, from: u64) -> u64 {
     let source = [10u8, 11];
     let mut b = [1u8, 2, 3, 4, 5];
-    match bits::write_bytes(&mut b, Bytes(from), &source) {
+    match bits::write_bytes(&mut b, Bytes(within), Bytes(from), &source) {
         BytesWrite::Done => octets::be64(&b, 0),
         BytesWrite::Outside => 0,
+        BytesWrite::Short => 1,
     }
 }
 
 fn spans() -> bool {
-    (copied(0) == 0x0a0b030405000000)
-        & (copied(3) == 0x0102030a0b000000)
-        & (copied(4) == 0)
-        & (copied(u64::MAX) == 0)
+    (copied(5, 0) == 0x0a0b030405000000)
+        & (copied(5, 3) == 0x0102030a0b000000)
+        & (copied(5, 4) == 0)
+        & (copied(5, u64::MAX) == 0)
+        & (copied(4, 3) == 0)
+        & (copied(6, 3) == 1)
 }
 
 fn print(part: &[u8], ok: bool) {

@@ -9,7 +9,6 @@ use bounds::Intersection;
 use expr::Length;
 use expr::MaybeNumber;
 use expr::UsableAlgExpr;
-use libc::STDOUT_FILENO;
 use number::Bits;
 use number::ByteVal;
 use number::Bytes;
@@ -18,9 +17,11 @@ use octets::be64;
 use octets::byte_at;
 use octets::part;
 use octets::same_bytes;
+use packed::Tally;
+use packed::two;
+use streams::Input;
 use types::BuiltinTypes;
 use types::TypeNamed;
-ghost use Prim.Native.Nat.{_≤_};
 
 // ---- sheets
 
@@ -264,67 +265,39 @@ fn expected(q: &[u8]) -> Answer {
 
 // ---- the files
 
-struct Tally {
-    right: u64,
-    wrong: u64,
-}
-
-// A number of two bytes.
-fn two(b: &[u8], at: usize) -> usize
-    ensures { λ r. ⌜ r ≤ 65535 ⌝ }
-{
-    octets::be16(b, at) as usize
-}
-
-fn tell(i: u64) {
-    io::print_decimal(STDOUT_FILENO, i);
-    io::write_all(STDOUT_FILENO, b" is wrong\n");
-}
-
 // Sheet after sheet up to the end of the file, or a hundred thousand.
 fn replay_answers(file: &[u8]) -> Tally {
-    let mut right: u64 = 0;
-    let mut wrong: u64 = 0;
+    let mut tally = Tally::NONE;
     let mut at: usize = 0;
-    for i in 0..100000u64 {
+    for _ in 0..100000u64 {
         if file.len() <= at {
             break;
         }
         let from = at + 6;
         let text = from + two(file, at);
         let next = text + two(file, at + 4);
-        if is_right(
+        let right = is_right(
             part(file, from, text),
             two(file, at + 2),
             part(file, text, next),
-        ) {
-            right += 1;
-        } else {
-            tell(i);
-            wrong += 1;
-        }
+        );
+        tally = tally.with(right);
         at = next;
     }
-    Tally { right, wrong }
+    tally
 }
 
 // Question after question.
 fn replay_alone(file: &[u8]) -> Tally {
-    let mut right: u64 = 0;
-    let mut wrong: u64 = 0;
+    let mut tally = Tally::NONE;
     for i in 0..100000usize {
         if file.len() <= 64 * i {
             break;
         }
         let q = part(file, 64 * i, 64 * i + 64);
-        if asked(q).is(expected(q)) {
-            right += 1;
-        } else {
-            tell(i as u64);
-            wrong += 1;
-        }
+        tally = tally.with(asked(q).is(expected(q)));
     }
-    Tally { right, wrong }
+    tally
 }
 
 // Room for a file.
@@ -332,31 +305,17 @@ fn large() -> [u8; 1048576] {
     [0; 1048576]
 }
 
-fn print(name: &[u8], t: Tally) {
-    io::write_all(STDOUT_FILENO, name);
-    io::write_all(STDOUT_FILENO, b": ");
-    io::print_decimal(STDOUT_FILENO, t.right);
-    io::write_all(STDOUT_FILENO, b" right, ");
-    io::print_decimal(STDOUT_FILENO, t.wrong);
-    io::write_all(STDOUT_FILENO, b" wrong\n");
-}
-
-// How many bytes of a file there are, at the start of the buffer.
-fn load(name: &[u8], buf: &mut [u8]) -> usize {
-    let fd = os::open_read(name);
-    if fd < 0 {
-        os::fail(name);
-        return 0;
-    }
-    let n = io::read_full(fd, buf);
-    libc::close(fd);
-    n
-}
-
 fn main() {
     let mut file = large();
-    let n = load(b"answers", &mut file);
-    print(b"answers", replay_answers(part(&file, 0, n)));
-    let n = load(b"alone", &mut file);
-    print(b"alone", replay_alone(part(&file, 0, n)));
+    let Input::Bytes(n) = streams::read_file(b"answers", &mut file) else {
+        return;
+    };
+    let answers = replay_answers(part(&file, 0, n));
+    let Input::Bytes(n) = streams::read_file(b"alone", &mut file) else {
+        return;
+    };
+    let alone = replay_alone(part(&file, 0, n));
+    if !(answers.print(b"answers: ") && alone.print(b"alone: ")) {
+        os::fail(b"test_replay: cannot write standard output");
+    }
 }

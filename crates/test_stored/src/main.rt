@@ -14,26 +14,10 @@ use field::NewField;
 use header::FieldIndex;
 use header::Header;
 use header::NewHeader;
-use libc::STDOUT_FILENO;
+use packed::Tally;
 use sheet::SlotBlock;
 use slots::LengthField;
-ghost use Rattle.io.specs.Counts.{Counts};
-
-enum Turn {
-    End,
-    Right,
-    Wrong,
-}
-
-// The next bytes of the file, as many as asked for, at the start of the buffer: how many came.
-fn fill(fd: i32, buf: &mut [u8], size: usize) -> usize
-    ensures { λ r. ⌜ Counts r (now (buf .exit)) ⌝ }
-{
-    if buf.len() < size {
-        return 0;
-    }
-    io::read_full(fd, &mut buf[..size])
-}
+use streams::Input;
 
 // ---- what an accepted sheet holds, compared with the facts of its record as they stand there, byte after byte
 
@@ -528,65 +512,49 @@ fn is_expected(s: &[u8], head: &[u8], facts: &[u8], buf: &mut [u8]) -> bool {
 }
 
 // One record: its head, the packed sheet, the facts.
-fn replay_one(fd: i32, buf: &mut [u8]) -> Turn {
-    let mut head = [0u8; 9];
-    let got = io::read_full(fd, &mut head);
-    if got < 9 {
-        return Turn::End;
-    }
-    let mut packed = io::large_buffer();
-    let mut expected = io::large_buffer();
+fn replay_one(head: &[u8], packed: &[u8], facts: &[u8], buf: &mut [u8]) -> bool {
     let mut sheet = io::large_buffer();
-    let p = fill(fd, &mut packed, octets::be16(&head, 0) as usize);
-    let t = fill(fd, &mut expected, octets::be16(&head, 7) as usize);
-    let len = octets::be16(&head, 2) as usize;
-    let whole = packed::unpack(&packed[..p], 0, &mut sheet) <= len;
-    if whole & is_expected(octets::part(&sheet, 0, len), &head, &expected[..t], buf) {
-        Turn::Right
-    } else {
-        Turn::Wrong
-    }
+    let len = packed::two(head, 2);
+    let whole = packed::unpack(packed, 0, &mut sheet) <= len;
+    whole & is_expected(octets::part(&sheet, 0, len), head, facts, buf)
 }
 
-fn tell(i: u64) {
-    io::print_decimal(STDOUT_FILENO, i);
-    io::write_all(STDOUT_FILENO, b" is wrong\n");
-}
-
-struct Tally {
-    right: u64,
-    wrong: u64,
-}
-
-// Record after record up to the end of the file, or a million; each that is wrong is named by its number.
-fn replay_all(fd: i32, buf: &mut [u8]) -> Tally {
-    let mut right: u64 = 0;
-    let mut wrong: u64 = 0;
-    for i in 0..1000000u64 {
-        let turn = replay_one(fd, buf);
-        match turn {
-            Turn::End => break,
-            Turn::Right => right += 1,
-            Turn::Wrong => {
-                tell(i);
-                wrong += 1;
-            }
+// Record after record up to the end of the file, or a million.
+fn replay_all(file: &[u8], buf: &mut [u8]) -> Tally {
+    let mut tally = Tally::NONE;
+    let mut at: usize = 0;
+    for _ in 0..1000000u64 {
+        if file.len() <= at {
+            break;
         }
+        let from = at + 9;
+        let facts = from + packed::two(file, at);
+        let next = facts + packed::two(file, at + 7);
+        let right = replay_one(
+            octets::part(file, at, from),
+            octets::part(file, from, facts),
+            octets::part(file, facts, next),
+            buf,
+        );
+        tally = tally.with(right);
+        at = next;
     }
-    Tally { right, wrong }
+    tally
+}
+
+// Room for the file, and to spare.
+fn large() -> [u8; 2097152] {
+    [0; 2097152]
 }
 
 fn main() {
-    let fd = os::open_read(b"sheets");
-    if fd < 0 {
-        os::fail(b"sheets");
+    let mut file = large();
+    let Input::Bytes(n) = streams::read_file(b"sheets", &mut file) else {
         return;
-    }
+    };
     let mut buf = large_filling();
-    let tally = replay_all(fd, &mut buf);
-    libc::close(fd);
-    io::print_decimal(STDOUT_FILENO, tally.right);
-    io::write_all(STDOUT_FILENO, b" right, ");
-    io::print_decimal(STDOUT_FILENO, tally.wrong);
-    io::write_all(STDOUT_FILENO, b" wrong\n");
+    let tally = replay_all(octets::part(&file, 0, n), &mut buf);
+    if !tally.print(b"") {
+        os::fail(b"test_stored: cannot write standard output");
+    }
 }

@@ -4,6 +4,8 @@
 use std::hint::black_box;
 use std::time::Instant;
 
+use oracle::by_hand::Locator;
+use oracle::port;
 use oracle::sheet::{CondBlock, DefaultItem, End, FieldBlock, Form, LengthBlock, Range, Sheet};
 
 const ROUNDS: usize = 201;
@@ -15,9 +17,9 @@ fn main() {
     row("check, the large sheet refused at its last block", check(&refused, false, 20));
     row("template of the large sheet", template(&large));
     rows("reads", reads);
-    rows("reads behind C", reads_behind_c);
+    rows("reads at the buffer's end", |number| reads(ending(number)));
     rows("writes", writes);
-    rows("writes behind C", writes_behind_c);
+    rows("writes at the buffer's end", |number| writes(ending(number)));
 }
 
 /// Nanoseconds of the port and of Rust.
@@ -27,28 +29,31 @@ fn row(what: &str, (port, rust): Times) {
     println!("{what:50} {:5.2}   (port {port:8.1} ns, Rust {rust:8.1} ns)", port / rust);
 }
 
-/// All runs of 1 to 64 bits together, and the width that fares worst.
-fn rows(what: &str, times: impl Fn(&by_hand::Run) -> Times) {
+/// All numbers of 1 to 64 bits together, and the width that fares worst.
+fn rows(what: &str, times: impl Fn(Locator) -> Times) {
     let sum = |times: Vec<Times>| times.iter().fold((0.0, 0.0), |(p, r), (port, rust)| (p + port, r + rust));
-    let widths: Vec<Vec<Times>> = (1..=64).map(|width| by_hand::runs(width).map(|run| times(&run)).collect()).collect();
+    let widths: Vec<Vec<Times>> = (1..=64).map(|width| numbers(width).map(&times).collect()).collect();
     let count = widths.iter().map(Vec::len).sum::<usize>() as f64;
     let of_width: Vec<Times> = widths.into_iter().map(sum).collect();
     let worst = of_width.iter().map(|(port, rust)| port / rust).fold(0.0, f64::max);
     let (port, rust) = sum(of_width);
-    row(&format!("{what}, 1 to 64 bits at offsets 0 to 7"), (port / count, rust / count));
+    row(&format!("{what}, 1 to 64 bits"), (port / count, rust / count));
     println!("{:50} {worst:5.2}", format!("{what}, the worst width"));
 }
 
 /// Both sides in turns, `calls` of each a round; the medians of a call.
-fn compare(calls: u32, mut port: impl FnMut(), mut rust: impl FnMut()) -> Times {
-    let time = |run: &mut dyn FnMut()| {
+fn compare(calls: usize, mut port: impl FnMut(), mut rust: impl FnMut()) -> Times {
+    compare_rounds(calls, || (0..calls).for_each(|_| port()), || (0..calls).for_each(|_| rust()))
+}
+
+/// The same of rounds, which make so many calls each.
+fn compare_rounds(calls: usize, mut port: impl FnMut(), mut rust: impl FnMut()) -> Times {
+    let time = |round: &mut dyn FnMut()| {
         let began = Instant::now();
-        run();
-        began.elapsed().as_nanos() as f64 / f64::from(calls)
+        round();
+        began.elapsed().as_nanos() as f64 / calls as f64
     };
-    let (mut ports, mut rusts): (Vec<f64>, Vec<f64>) = (0..ROUNDS)
-        .map(|_| (time(&mut || (0..calls).for_each(|_| port())), time(&mut || (0..calls).for_each(|_| rust()))))
-        .unzip();
+    let (mut ports, mut rusts): (Vec<f64>, Vec<f64>) = (0..ROUNDS).map(|_| (time(&mut port), time(&mut rust))).unzip();
     (median(&mut ports), median(&mut rusts))
 }
 
@@ -59,7 +64,7 @@ fn median(times: &mut [f64]) -> f64 {
 
 // ---- sheets
 
-fn check(sheet: &[u8], accepted: bool, calls: u32) -> Times {
+fn check(sheet: &[u8], accepted: bool, calls: usize) -> Times {
     assert_eq!(pktfmt_checked::check(sheet).is_ok(), accepted);
     assert_eq!(original::definition(sheet).is_some(), accepted);
     compare(
@@ -239,280 +244,57 @@ mod original {
 
 // ---- fields
 
-/// Bytes to read, and around what is written.
-const BYTES: [u8; 64] = [0x5a; 64];
+/// As many buffers as there are calls in a round, so that no call waits for what the one before it wrote.
+const BUFFERS: [[u8; 64]; 100] = [[0x5a; 64]; 100];
 
-fn reads(run: &by_hand::Run) -> Times {
-    let locator = run.locator();
-    assert_eq!(c::read(port::pktfmt_read_number, &locator, &BYTES), run.read(&BYTES));
-    compare(
-        100,
-        || _ = black_box(c::read(port::pktfmt_read_number, black_box(&locator), black_box(&BYTES))),
-        || _ = black_box(black_box(run).read(black_box(&BYTES))),
+/// The numbers of a width from each bit of byte 20 on that touch at most 8 bytes.
+fn numbers(width: u64) -> impl Iterator<Item = Locator> {
+    (160..168)
+        .map(move |start| Locator { index: 0, header: 64, start, width, held: 0, default: 0 })
+        .filter(|number| number.start % 8 + number.width <= 64)
+}
+
+/// The same number in a header that ends with it.
+fn ending(number: Locator) -> Locator {
+    Locator { header: (number.start + number.width).div_ceil(8), ..number }
+}
+
+fn reads(number: Locator) -> Times {
+    let (six, bytes) = (number.numbers(), ..number.header as usize);
+    let mut told = [0; 3];
+    compare_rounds(
+        BUFFERS.len(),
+        || {
+            for buf in &BUFFERS {
+                black_box(port::read_number(black_box(&six), black_box(&buf[bytes]), black_box(&mut told)));
+            }
+        },
+        || {
+            for buf in &BUFFERS {
+                _ = black_box(black_box(&number).read_number(black_box(&buf[bytes])));
+            }
+        },
     )
 }
 
-fn reads_behind_c(run: &by_hand::Run) -> Times {
-    let locator = run.locator();
-    assert_eq!(c::read(behind_c::read_number, &locator, &BYTES), run.read(&BYTES));
-    compare(
-        100,
-        || _ = black_box(c::read(port::pktfmt_read_number, black_box(&locator), black_box(&BYTES))),
-        || _ = black_box(c::read(behind_c::read_number, black_box(&locator), black_box(&BYTES))),
-    )
-}
-
-fn writes(run: &by_hand::Run) -> Times {
-    let (locator, value) = (run.locator(), run.value());
-    let (mut left, mut right) = (BYTES, BYTES);
-    let times = compare(
-        100,
-        || assert!(c::write(port::pktfmt_write_number, black_box(&locator), black_box(&mut left), black_box(value))),
-        || assert!(black_box(run).write(black_box(&mut right), black_box(value))),
+fn writes(number: Locator) -> Times {
+    let (six, bytes) = (number.numbers(), ..number.header as usize);
+    let value = 0x0123_4567_89ab_cdef >> (64 - number.width);
+    let (mut left, mut right, mut told) = (BUFFERS, BUFFERS, [0; 3]);
+    let times = compare_rounds(
+        BUFFERS.len(),
+        || {
+            for buf in &mut left {
+                let buf = black_box(&mut buf[bytes]);
+                black_box(port::write_number(black_box(&six), buf, black_box(value), black_box(&mut told)));
+            }
+        },
+        || {
+            for buf in &mut right {
+                _ = black_box(black_box(&number).write_number(black_box(&mut buf[bytes]), black_box(value)));
+            }
+        },
     );
     assert_eq!(left, right);
     times
-}
-
-fn writes_behind_c(run: &by_hand::Run) -> Times {
-    let (locator, value) = (run.locator(), run.value());
-    let (mut left, mut right) = (BYTES, BYTES);
-    let times = compare(
-        100,
-        || assert!(c::write(port::pktfmt_write_number, black_box(&locator), black_box(&mut left), black_box(value))),
-        || assert!(c::write(behind_c::write_number, black_box(&locator), black_box(&mut right), black_box(value))),
-    );
-    assert_eq!(left, right);
-    times
-}
-
-/// Calls of functions of the types that include/pktfmt.h has: numbers and slices go in, and the answer is in a lent slice.
-mod c {
-    pub type Read = unsafe extern "C" fn(*const u64, usize, *const u8, usize, *mut u64, usize) -> bool;
-    pub type Write = unsafe extern "C" fn(*const u64, usize, *mut u8, usize, u64, *mut u64, usize) -> bool;
-
-    #[inline(always)]
-    pub fn read(function: Read, locator: &[u64; 6], buf: &[u8]) -> Option<u64> {
-        let mut told = [0; 3];
-        // SAFETY: pointers and counts are those of slices.
-        let accepted = unsafe { function(locator.as_ptr(), 6, buf.as_ptr(), buf.len(), told.as_mut_ptr(), 3) };
-        accepted.then_some(told[0])
-    }
-
-    #[inline(always)]
-    pub fn write(function: Write, locator: &[u64; 6], buf: &mut [u8], value: u64) -> bool {
-        let mut told = [0; 3];
-        // SAFETY: pointers and counts are those of slices, and the borrows keep them apart.
-        unsafe { function(locator.as_ptr(), 6, buf.as_mut_ptr(), buf.len(), value, told.as_mut_ptr(), 3) }
-    }
-}
-
-/// The two functions of include/pktfmt.h that take a locator, which was worked out before.
-mod port {
-    extern "C" {
-        pub fn pktfmt_read_number(
-            locator: *const u64,
-            locator_len: usize,
-            buf: *const u8,
-            buf_len: usize,
-            answer: *mut u64,
-            answer_len: usize,
-        ) -> bool;
-        pub fn pktfmt_write_number(
-            locator: *const u64,
-            locator_len: usize,
-            buf: *mut u8,
-            buf_len: usize,
-            value: u64,
-            answer: *mut u64,
-            answer_len: usize,
-        ) -> bool;
-    }
-}
-
-/// The same two by hand: a locator of any six numbers, and which access it was that refused.
-mod behind_c {
-    use std::slice::{from_raw_parts, from_raw_parts_mut};
-
-    use super::by_hand::Run;
-
-    #[inline(never)]
-    pub unsafe extern "C" fn read_number(
-        locator: *const u64,
-        locator_len: usize,
-        buf: *const u8,
-        buf_len: usize,
-        answer: *mut u64,
-        answer_len: usize,
-    ) -> bool {
-        // SAFETY: the caller's pointers and counts are those of slices.
-        let (locator, buf, answer) = unsafe {
-            (from_raw_parts(locator, locator_len), from_raw_parts(buf, buf_len), from_raw_parts_mut(answer, answer_len))
-        };
-        let run = Run::of(locator);
-        match run.reach(locator, buf.len()) {
-            Ok(first) => tell(answer, [run.number(buf, first)]),
-            Err(access) => !tell(answer, [10, access, number_at(locator, 0)]),
-        }
-    }
-
-    #[inline(never)]
-    pub unsafe extern "C" fn write_number(
-        locator: *const u64,
-        locator_len: usize,
-        buf: *mut u8,
-        buf_len: usize,
-        value: u64,
-        answer: *mut u64,
-        answer_len: usize,
-    ) -> bool {
-        // SAFETY: the caller's pointers and counts are those of slices, which lie apart.
-        let (locator, buf, answer) = unsafe {
-            (
-                from_raw_parts(locator, locator_len),
-                from_raw_parts_mut(buf, buf_len),
-                from_raw_parts_mut(answer, answer_len),
-            )
-        };
-        let run = Run::of(locator);
-        match run.reach(locator, buf.len()).and_then(|first| run.suit(value).map(|()| first)) {
-            Ok(first) => {
-                run.put(buf, first, value);
-                true
-            }
-            Err(access) => !tell(answer, [10, access, number_at(locator, 0)]),
-        }
-    }
-
-    /// The number at an index; 0 past the end.
-    #[inline]
-    fn number_at(numbers: &[u64], at: usize) -> u64 {
-        numbers.get(at).copied().unwrap_or(0)
-    }
-
-    /// As many of the numbers as there is room for; true.
-    #[inline]
-    fn tell<const N: usize>(answer: &mut [u64], numbers: [u64; N]) -> bool {
-        answer.iter_mut().zip(numbers).for_each(|(told, number)| *told = number);
-        true
-    }
-
-    impl Run {
-        #[inline]
-        fn of(locator: &[u64]) -> Run {
-            let at = |i| number_at(locator, i);
-            Run { header: at(1) as usize, start: at(2), width: at(3), default: at(5), fixed: at(4) == 1 }
-        }
-
-        /// The first byte, or access 1 to 3.
-        #[inline]
-        fn reach(&self, locator: &[u64], len: usize) -> Result<usize, u64> {
-            let (first, touched) = (self.start / 8, self.width / 8 + (self.start % 8 + self.width % 8 + 7) / 8);
-            let bytes = number_at(locator, 4) > 1;
-            let shape = if bytes { self.start % 8 == 0 && self.width % 8 == 0 } else { touched <= 8 };
-            match () {
-                () if !shape || first + touched > self.header as u64 => Err(1),
-                () if len < self.header => Err(2),
-                () if bytes => Err(3),
-                () => Ok(first as usize),
-            }
-        }
-
-        /// Access 4 and 5.
-        #[inline]
-        fn suit(&self, value: u64) -> Result<(), u64> {
-            match () {
-                () if self.width < 64 && value >> self.width != 0 => Err(4),
-                () if self.fixed && value != self.default => Err(5),
-                () => Ok(()),
-            }
-        }
-    }
-}
-
-/// Reading and writing by hand: a window of 8 bytes, shifts and masks; refused where the locator or the value asks for it, as in the port.
-mod by_hand {
-    pub struct Run {
-        pub header: usize,
-        pub start: u64,
-        pub width: u64,
-        pub default: u64,
-        pub fixed: bool,
-    }
-
-    /// The runs of a width from each bit of a byte on that touch at most 8 bytes.
-    pub fn runs(width: u64) -> impl Iterator<Item = Run> {
-        (160..168)
-            .map(move |start| Run { header: 64, start, width, default: 0, fixed: false })
-            .filter(|run| run.touched() <= 8)
-    }
-
-    impl Run {
-        fn touched(&self) -> u64 {
-            (self.start % 8 + self.width + 7) / 8
-        }
-
-        /// The numbers of the locator in include/pktfmt.h.
-        pub fn locator(&self) -> [u64; 6] {
-            [0, self.header as u64, self.start, self.width, self.fixed.into(), self.default]
-        }
-
-        /// A number that fills the run.
-        pub fn value(&self) -> u64 {
-            0x0123_4567_89ab_cdef >> (64 - self.width)
-        }
-
-        /// The first byte, if the run lies in the header and the header in the buffer.
-        #[inline]
-        fn first(&self, buf: &[u8]) -> Option<usize> {
-            let (first, touched) = ((self.start / 8) as usize, self.touched());
-            (touched <= 8 && first + touched as usize <= self.header && self.header <= buf.len()).then_some(first)
-        }
-
-        #[inline(never)]
-        pub fn read(&self, buf: &[u8]) -> Option<u64> {
-            let first = self.first(buf)?;
-            Some(self.number(buf, first))
-        }
-
-        #[inline(never)]
-        pub fn write(&self, buf: &mut [u8], value: u64) -> bool {
-            let Some(first) = self.first(buf) else { return false };
-            if value > u64::MAX >> (64 - self.width) || (self.fixed && value != self.default) {
-                return false;
-            }
-            self.put(buf, first, value);
-            true
-        }
-
-        /// The number in the run, from its first byte on.
-        #[inline]
-        pub fn number(&self, buf: &[u8], first: usize) -> u64 {
-            window(buf, first) << (self.start % 8) >> (64 - self.width)
-        }
-
-        /// The number into the run, from its first byte on.
-        #[inline]
-        pub fn put(&self, buf: &mut [u8], first: usize, value: u64) {
-            let below = 64 - self.start % 8 - self.width;
-            let most = u64::MAX >> (64 - self.width);
-            let bytes = (window(buf, first) & !(most << below) | value << below).to_be_bytes();
-            let count = bytes.len().min(buf.len() - first);
-            match <&mut [u8; 8]>::try_from(&mut buf[first..first + count]) {
-                Ok(all) => *all = bytes,
-                Err(_) => buf[first..].copy_from_slice(&bytes[..count]),
-            }
-        }
-    }
-
-    /// The 8 bytes from one on, with zeros past the end.
-    #[inline]
-    fn window(buf: &[u8], first: usize) -> u64 {
-        let mut bytes = [0; 8];
-        match buf.get(first..first + 8) {
-            Some(all) => bytes.copy_from_slice(all),
-            None => bytes[..buf.len() - first].copy_from_slice(&buf[first..]),
-        }
-        u64::from_be_bytes(bytes)
-    }
 }

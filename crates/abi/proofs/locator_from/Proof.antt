@@ -1,27 +1,28 @@
--- `locator_from` meets its contract: past the end of the numbers each is 0. Assumes nothing.
-use lib.ListN.{List·getD-eq-default}
-use native.Mathlib.Omega.{arith}
+-- `locator_from` meets its contract: by the number of what is held. Assumes nothing.
 use borrow.Author.Needs.{needs}
+use borrow.Author.Tests.{ne-eqb}
+use Rattle.abi.specs.Numbers.{heldFrom}
+use Rattle.abi.proofs.Told.{bytes-from}
 use Rattle.abi.proofs.locator_from.Statement.{statement}
 use Rattle.abi.proofs.locator_from.Tie as tie
 
+returns : tie.Need-returns
+unfolding heldFrom
+returns c = rw (c .locator-with .ensures, c .before .match .keys1)
+
 returns-2 : tie.Need-returns-2
-returns-2 c =
-    let five = c .before in
-    let four = five .before in
-    let three = four .before in
-    let two = three .before in
-    let one = two .before in
-    let short = one .before in
-    rw (
-      c .locator-of2 .ensures,
-      five .number-at5 .ensures,
-      four .number-at4 .ensures,
-      three .number-at3 .ensures,
-      two .number-at2 .ensures,
-      one .number-at .ensures,
-      List·getD-eq-default (short .before .before .args .numbers .now) 0 {n = 5} (omega (arith, short .if1 .left)),
-    )
+unfolding heldFrom
+returns-2 c = rw (c .locator-with2 .ensures, c .before .match .keys2)
+
+returns-3 : tie.Need-returns-3
+returns-3 c =
+    let width = c .before in
+    let match = width .before in
+    rw (c .locator-with3 .ensures, width .bytes-width .ensures) (bytes-from (match .before .before .before .before .args .numbers .now) (match .match .keys3))
+
+returns-4 : tie.Need-returns-4
+unfolding heldFrom
+returns-4 c = let n = c .before .match .rest in rw (c .locator-with4 .ensures, ne-eqb _ 0 (n .0 .0 .1), ne-eqb _ 1 (n .0 .1), ne-eqb _ 2 (n .1))
 
 pub locator-from-spec : {M : Type 1} → statement M
 locator-from-spec =
@@ -30,15 +31,12 @@ locator-from-spec =
     (λ c. search needs)
     (λ c. search needs)
     (λ c. search needs)
-    (λ c. search needs)
-    (λ c. search needs)
-    (λ c. search needs)
-    (λ c κs. search needs)
-    (λ c. search needs)
     (λ c κs. search needs)
     (λ c κs. search needs)
     (λ c κs. search needs)
     (λ c κs. search needs)
     (λ c κs. search needs)
-    (λ c κs. search needs)
-    returns-2)
+    returns
+    returns-2
+    returns-3
+    returns-4)

@@ -1,4 +1,4 @@
--- `pktfmt_read_bytes` meets its contract: the span is told where the place can be read. Assumes nothing.
+-- `pktfmt_read_bytes` meets its contract: the span is told where the locator can be read. Assumes nothing.
 use mathlib.Core.Path.{ap, _∙_}
 use borrow.Author.Needs.{needs}
 use Rattle.answer.specs.Paper.{verdictSays}
@@ -10,20 +10,18 @@ use Rattle.abi.proofs.pktfmt_read_bytes.Tie as tie
 returns : tie.Need-returns
 unfolding laid
 returns c =
-    let two = c .before .before in
-    let one = two .before .before .before .before .before in
+    let one = c .before .before .before in
     let ok = one .before .before .before .before .before in
     let reach = ok .before .before in
     let same = reach .before .locator-from .ensures in
     told-given (reach-same same _ (reach .can-read-bytes .ensures) ∙ ap verdictSays (ok .enum-told .given .1))
-    (rw (two .tell2 .ensures, two .before .whole-bytes .ensures, one .tell .ensures, one .before .byte-pos .ensures, same))
+    (rw (c .tell2 .ensures, c .before .whole-bytes .ensures, one .tell .ensures, one .before .byte-pos .ensures, same))
 
 returns-2 : tie.Need-returns-2
 returns-2 c =
-    let told = c .before .before in
-    let why = told .before .before .before in
+    let why = c .before .before .before in
     let reach = why .before .before in
-    told-refused (reach-same (reach .before .locator-from .ensures) _ (reach .can-read-bytes .ensures) ∙ ap verdictSays (why .reason .given .1)) (told .tell-refusal .ensures)
+    told-refused (reach-same (reach .before .locator-from .ensures) _ (reach .can-read-bytes .ensures) ∙ ap verdictSays (why .reason .given .1)) (c .tell-refusal .ensures)
 
 pub pktfmt-read-bytes-spec : {M : Type 1} → statement M
 pktfmt-read-bytes-spec =
@@ -38,7 +36,5 @@ pktfmt-read-bytes-spec =
     (λ c κs. search needs)
     (λ c. search needs)
     (λ c κs. search needs)
-    (λ c. search needs)
     returns
-    (λ c. search needs)
     returns-2)

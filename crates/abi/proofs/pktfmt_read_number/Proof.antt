@@ -10,17 +10,15 @@ use Rattle.abi.proofs.pktfmt_read_number.Tie as tie
 returns : tie.Need-returns
 unfolding laid
 returns c =
-    let told = c .before .before in
-    let v = told .before .before .before in
+    let v = c .before .before .before in
     let read = v .before .before in
-    told-given (read-same (read .before .locator-from .ensures) _ (read .read-number .ensures) ∙ ap numberAnswerSays (v .v .given .1)) (told .tell .ensures)
+    told-given (read-same (read .before .locator-from .ensures) _ (read .read-number .ensures) ∙ ap numberAnswerSays (v .v .given .1)) (c .tell .ensures)
 
 returns-2 : tie.Need-returns-2
 returns-2 c =
-    let told = c .before .before in
-    let why = told .before .before .before in
+    let why = c .before .before .before in
     let read = why .before .before in
-    told-refused (read-same (read .before .locator-from .ensures) _ (read .read-number .ensures) ∙ ap numberAnswerSays (why .reason .given .1)) (told .tell-refusal .ensures)
+    told-refused (read-same (read .before .locator-from .ensures) _ (read .read-number .ensures) ∙ ap numberAnswerSays (why .reason .given .1)) (c .tell-refusal .ensures)
 
 pub pktfmt-read-number-spec : {M : Type 1} → statement M
 pktfmt-read-number-spec =
@@ -32,7 +30,5 @@ pktfmt-read-number-spec =
     (λ c κs. search needs)
     (λ c. search needs)
     (λ c κs. search needs)
-    (λ c. search needs)
     returns
-    (λ c. search needs)
     returns-2)

@@ -1,4 +1,4 @@
--- `pktfmt_write_bytes` meets its contract: what the write at the place answers is told. Assumes nothing.
+-- `pktfmt_write_bytes` meets its contract: what the write at the locator answers is told. Assumes nothing.
 use borrow.Author.Needs.{needs}
 use Rattle.abi.proofs.Told.{write-told}
 use Rattle.abi.proofs.pktfmt_write_bytes.Statement.{statement}
@@ -6,9 +6,8 @@ use Rattle.abi.proofs.pktfmt_write_bytes.Tie as tie
 
 returns : tie.Need-returns
 returns c =
-    let told = c .before .before in
-    let wrote = told .before .before .before .before in
-    write-told (wrote .before .before .locator-from .ensures) (wrote .write-bytes .ensures) (told .tell-verdict .ensures)
+    let wrote = c .before .before .before .before in
+    write-told (wrote .before .before .locator-from .ensures) (wrote .write-bytes .ensures) (c .tell-verdict .ensures)
 
 pub pktfmt-write-bytes-spec : {M : Type 1} → statement M
 pktfmt-write-bytes-spec =
@@ -17,6 +16,5 @@ pktfmt-write-bytes-spec =
     (λ c κs. search needs)
     (λ c κs. search needs)
     (λ c κs. search needs)
-    (λ c. search needs)
     (λ c. search needs)
     returns)

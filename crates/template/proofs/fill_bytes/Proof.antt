@@ -17,7 +17,7 @@ returns c =
     let test = cleared .before .before in
     let start = test .before .before .before .before in
     let a = start .args in
-    bytes-put (start .pre .0) (cleared .clear-bytes .ensures)
+    bytes-put (start .pre .0) (omega arith) (cleared .clear-bytes .ensures)
     ∙ ap (put (a .buf .now) (8 * a .from .0) (8 * a .count .0)) (sym (none-stated (a .b .now) (a .span .at) (a .span .len) (omega arith)))
 
 returns-2 : tie.Need-returns-2

@@ -1,15 +1,33 @@
--- `replay_alone` is safe and ends: it goes from question to question, and counts no more than that. Assumes nothing.
-use mathlib.Core.Logic.{⊎-elim}
+-- `replay_alone` is safe and ends: it goes from question to question. Assumes nothing.
 use Prim.Native.Nat.{_-_, _≤_}
 use borrow.Author.Needs.{needs}
 use Rattle.test_replay.proofs.replay_alone.Statement.{statement}
 use Rattle.test_replay.proofs.replay_alone.Tie as tie
 
 abbrev Inv-loop : tie.InvT-loop
-Inv-loop file right₀ wrong₀ i₀ right wrong i = (i ≤ 100000) × (right ≤ i) × (wrong ≤ i)
+Inv-loop file tally₀ i₀ tally i = i ≤ 100000
 
 abbrev μ-loop : tie.MeasureT-loop
-μ-loop file right₀ wrong₀ i₀ right wrong i = 100000 - i
+μ-loop file tally₀ i₀ tally i = 100000 - i
 
 pub replay-alone-spec : {M : Type 1} → statement M
-replay-alone-spec = tie.close (tie.spec Inv-loop μ-loop (λ c. search needs) (λ c. search needs) (λ c. search needs) (λ c. search needs) (λ c. search needs) (λ c κs. search needs) (λ c κs. search needs) (λ c κs. search needs) (λ c κs. search needs) (λ c. search needs) (λ c κs. search needs) (λ c. search needs) (λ c. search needs) (λ c. search needs) (λ c. ⊎-elim (λ w. search needs) (λ w. search needs) (c .if2 .came)) (λ c. search needs) (λ c. search needs))
+replay-alone-spec =
+    tie.close
+    (tie.spec
+    Inv-loop
+    μ-loop
+    (λ c. search needs)
+    (λ c. search needs)
+    (λ c. search needs)
+    (λ c. search needs)
+    (λ c. search needs)
+    (λ c κs. search needs)
+    (λ c κs. search needs)
+    (λ c κs. search needs)
+    (λ c κs. search needs)
+    (λ c κs. search needs)
+    (λ c. search needs)
+    (λ c. search needs)
+    (λ c. search needs)
+    (λ c. search needs)
+    (λ c. search needs))

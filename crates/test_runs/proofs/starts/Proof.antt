@@ -5,10 +5,10 @@ use Rattle.test_runs.proofs.starts.Statement.{statement}
 use Rattle.test_runs.proofs.starts.Tie as tie
 
 abbrev Inv-loop : tie.InvT-loop
-Inv-loop fill right₀ s₀ right s = (s ≤ 16) × (right ≤ 256 * s)
+Inv-loop lent fill right₀ s₀ right s = (s ≤ 16) × (right ≤ 256 * s)
 
 abbrev μ-loop : tie.MeasureT-loop
-μ-loop fill right₀ s₀ right s = 16 - s
+μ-loop lent fill right₀ s₀ right s = 16 - s
 
 pub starts-spec : {M : Type 1} → statement M
 starts-spec =

@@ -5,10 +5,10 @@ use Rattle.test_runs.proofs.widths.Statement.{statement}
 use Rattle.test_runs.proofs.widths.Tie as tie
 
 abbrev Inv-loop : tie.InvT-loop
-Inv-loop fill s right₀ w₀ right w = (w ≤ 65) × (1 ≤ w) × (right + 4 ≤ 4 * w)
+Inv-loop lent fill s right₀ w₀ right w = (w ≤ 65) × (1 ≤ w) × (right + 4 ≤ 4 * w)
 
 abbrev μ-loop : tie.MeasureT-loop
-μ-loop fill s right₀ w₀ right w = 65 - w
+μ-loop lent fill s right₀ w₀ right w = 65 - w
 
 pub widths-spec : {M : Type 1} → statement M
 widths-spec =

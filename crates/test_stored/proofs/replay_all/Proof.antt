@@ -1,6 +1,5 @@
--- `replay_all` is safe and ends: it goes from record to record, and counts no more than that. Assumes nothing.
+-- `replay_all` is safe and ends: it goes from record to record, over a buffer that keeps its length. Assumes nothing.
 use mathlib.Core.Path.{_≡_}
-use mathlib.Core.Logic.{⊎-elim}
 use Prim.Native.Nat.{_-_, _≤_}
 use lib.ListN.{length}
 use borrow.Author.Needs.{needs}
@@ -8,10 +7,10 @@ use Rattle.test_stored.proofs.replay_all.Statement.{statement}
 use Rattle.test_stored.proofs.replay_all.Tie as tie
 
 abbrev Inv-loop : tie.InvT-loop
-Inv-loop fd buf₀ right₀ wrong₀ i₀ buf right wrong i = (i ≤ 1000000) × (right ≤ i) × (wrong ≤ i) × (length buf ≡ length buf₀)
+Inv-loop file buf₀ tally₀ at₀ counter₀ buf tally at counter = (counter ≤ 1000000) × (length buf ≡ length buf₀)
 
 abbrev μ-loop : tie.MeasureT-loop
-μ-loop fd buf₀ right₀ wrong₀ i₀ buf right wrong i = 1000000 - i
+μ-loop file buf₀ tally₀ at₀ counter₀ buf tally at counter = 1000000 - counter
 
 pub replay-all-spec : {M : Type 1} → statement M
 replay-all-spec =
@@ -20,16 +19,20 @@ replay-all-spec =
     Inv-loop
     μ-loop
     (λ c. search needs)
-    (λ c κs. search needs)
-    (λ c. search needs)
-    (λ c. search needs)
-    (λ c. search needs)
     (λ c. search needs)
     (λ c κs. search needs)
     (λ c. search needs)
     (λ c. search needs)
+    (λ c κs. search needs)
     (λ c. search needs)
-    (λ c. ⊎-elim (λ w. search needs) (λ w. search needs) (c .match .came))
+    (λ c κs. search needs)
+    (λ c κs. search needs)
+    (λ c κs. search needs)
+    (λ c κs. search needs)
+    (λ c κs. search needs)
+    (λ c. search needs)
+    (λ c. search needs)
+    (λ c. search needs)
     (λ c. search needs)
     (λ c. search needs)
     (λ c. search needs)
