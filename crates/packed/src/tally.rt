@@ -1,8 +1,11 @@
 // How many answers were right and how many were not, and which one was the first that was not.
-use libc::STDOUT_FILENO;
 use std::num::wrapping_add_u64;
+use text::Cursor;
+use text::put_bytes;
+use text::put_decimal;
 ghost use mathlib.Core.Path.{_≡_};
-ghost use Rattle.packed.specs.Counted.{counted};
+ghost use Rattle.text.specs.Output.{emit};
+ghost use Rattle.packed.specs.Counted.{counted, countsText, firstText, tallyText};
 
 pub struct Tally {
     right: u64,
@@ -39,23 +42,31 @@ impl Tally {
         }
     }
 
-    fn print_counts(self) -> bool {
-        io::print_decimal(STDOUT_FILENO, self.right)
-            && io::write_all(STDOUT_FILENO, b" right, ")
-            && io::print_decimal(STDOUT_FILENO, self.wrong)
-            && io::write_all(STDOUT_FILENO, b" wrong\n")
+    fn put_counts(self, out: &mut [u8], to: Cursor) -> Cursor
+        ensures { λ r. ⌜ (now (out .exit), r) ≡ emit (countsText self) (now (out .entry), to) ⌝ }
+    {
+        let p = put_decimal(out, to, self.right);
+        let p = put_bytes(out, p, b" right, ");
+        let p = put_decimal(out, p, self.wrong);
+        put_bytes(out, p, b" wrong\n")
     }
 
-    fn print_first_wrong(self) -> bool {
-        io::print_decimal(STDOUT_FILENO, self.first)
-            && io::write_all(STDOUT_FILENO, b" is the first that is wrong\n")
+    fn put_first(self, out: &mut [u8], to: Cursor) -> Cursor
+        ensures { λ r. ⌜ (now (out .exit), r) ≡ emit (firstText self) (now (out .entry), to) ⌝ }
+    {
+        let p = put_decimal(out, to, self.first);
+        put_bytes(out, p, b" is the first that is wrong\n")
     }
 
-    // Prints a line, with a title in front; and where something is wrong, one more that names the first such answer by its number, counted from 0. Whether all
-    // that was written.
-    pub fn print(self, title: &[u8]) -> bool {
-        io::write_all(STDOUT_FILENO, title)
-            && self.print_counts()
-            && (self.wrong == 0 || self.print_first_wrong())
+    // A line, with a title in front; and where something is wrong, one more that names the first such answer by its number, counted from 0.
+    pub fn put(self, out: &mut [u8], to: Cursor, title: &[u8]) -> Cursor
+        ensures { λ r. ⌜ (now (out .exit), r) ≡ emit (tallyText (now (title .entry)) self) (now (out .entry), to) ⌝ }
+    {
+        let p = put_bytes(out, to, title);
+        let p = self.put_counts(out, p);
+        if self.wrong == 0 {
+            return p;
+        }
+        self.put_first(out, p)
     }
 }

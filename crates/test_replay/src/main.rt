@@ -9,6 +9,7 @@ use bounds::Intersection;
 use expr::Length;
 use expr::MaybeNumber;
 use expr::UsableAlgExpr;
+use libc::STDOUT_FILENO;
 use number::Bits;
 use number::ByteVal;
 use number::Bytes;
@@ -20,6 +21,7 @@ use octets::same_bytes;
 use packed::Tally;
 use packed::two;
 use streams::Input;
+use text::Cursor;
 use types::BuiltinTypes;
 use types::TypeNamed;
 
@@ -315,7 +317,10 @@ fn main() {
         return;
     };
     let alone = replay_alone(part(&file, 0, n));
-    if !(answers.print(b"answers: ") && alone.print(b"alone: ")) {
+    let mut out = [0u8; 256];
+    let to = answers.put(&mut out, Cursor::At(0), b"answers: ");
+    let to = alone.put(&mut out, to, b"alone: ");
+    if !io::write_all(STDOUT_FILENO, part(&out, 0, text::filled(&out, to))) {
         os::fail(b"test_replay: cannot write standard output");
     }
 }

@@ -14,10 +14,12 @@ use field::NewField;
 use header::FieldIndex;
 use header::Header;
 use header::NewHeader;
+use libc::STDOUT_FILENO;
 use packed::Tally;
 use sheet::SlotBlock;
 use slots::LengthField;
 use streams::Input;
+use text::Cursor;
 
 // ---- what an accepted sheet holds, compared with the facts of its record as they stand there, byte after byte
 
@@ -554,7 +556,9 @@ fn main() {
     };
     let mut buf = large_filling();
     let tally = replay_all(octets::part(&file, 0, n), &mut buf);
-    if !tally.print(b"") {
+    let mut out = [0u8; 128];
+    let to = tally.put(&mut out, Cursor::At(0), b"");
+    if !io::write_all(STDOUT_FILENO, octets::part(&out, 0, text::filled(&out, to))) {
         os::fail(b"test_stored: cannot write standard output");
     }
 }
