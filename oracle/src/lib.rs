@@ -3,7 +3,8 @@
 //! [`sheet`] has sheets as values; [`original`] asks the original of one, step by step; [`listing`] writes its answer in
 //! the lister's words. A benchmark needs no more than these. [`generate`] makes sheets, [`compare`] holds both sides
 //! against each other, [`single`] asks the original's functions that stand alone, and [`store`] writes files of answers.
-//! The original has no reads and writes of fields: [`by_hand`] has, and [`port`] the port's beside them.
+//! The original has no reads and writes of fields: [`by_hand`] has. The port is asked through the crate in `rust/`; for
+//! the benchmark [`port`] has it as C does.
 
 // The original names the crate `byteorder`; what it needs of it is in `stand_ins`.
 extern crate self as byteorder;

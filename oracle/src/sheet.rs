@@ -12,12 +12,14 @@ pub const MOST_DEFAULT_BYTES: usize = 424;
 /// The names of the length slots.
 pub const SLOTS: [&str; 3] = ["header_len", "payload_len", "packet_len"];
 
-const NAME: usize = 2;
+/// Where the name stands in a block.
+pub const NAME: usize = 2;
+/// Where the bytes of a default stand in a field's block.
+pub const DEFAULT_BYTES: usize = 86;
 const NODES: usize = 88;
 const NODE: usize = 12;
 const RANGES: usize = 68;
 const RANGE: usize = 18;
-const DEFAULT_BYTES: usize = 86;
 const CHECK: usize = 510;
 
 #[derive(Clone, Debug, Default, PartialEq, Eq)]

@@ -1,40 +1,58 @@
 //! Lengths that are worked out of a field's value.
 
 use crate::ffi;
-use crate::Refusal;
 
 /// The lengths that a sheet can give.
 #[derive(Clone, Copy, Debug, PartialEq, Eq, Hash)]
-pub enum SlotName {
+#[repr(u64)]
+pub enum Slot {
     /// That of the header.
-    HeaderLen = 0,
+    HeaderLen = ffi::HEADER_LEN,
     /// That of the payload.
-    PayloadLen = 1,
+    PayloadLen = ffi::PAYLOAD_LEN,
     /// That of the packet.
-    PacketLen = 2,
+    PacketLen = ffi::PACKET_LEN,
 }
 
 /// What a sheet says of a length.
 #[derive(Clone, Copy, Debug, PartialEq, Eq)]
-pub enum Slot {
+pub enum SlotState {
     /// Nothing.
     Absent,
-    /// That there is one, and not how to work it out.
+    /// That there is one, and not how it is worked out.
     Undefined,
     /// How it is worked out.
-    Holds {
-        /// The form of the expression.
-        form: Form,
-        /// The index of the field whose value is x.
-        field: usize,
-        /// The length of that field's largest value.
-        largest: u64,
-    },
+    Defined(Length),
+}
+
+/// A length of an accepted sheet, which is worked out of the value x of one of its fields.
+///
+/// ```
+/// use pktfmt_checked::{Formula, Sheet, Slot, SlotState};
+///
+/// let sheet = Sheet::new(include_bytes!(concat!(env!("CARGO_MANIFEST_DIR"), "/../examples/rfc791.sheet")))?;
+/// let length = sheet.length(Slot::HeaderLen).defined().expect("the sheet says how");
+/// assert_eq!(length.formula(), Formula::Times { factor: 4 });
+/// assert_eq!(sheet.fields()[length.field_index()].name(), "ihl");
+/// assert_eq!(length.largest(), 60);
+///
+/// assert_eq!(length.forward(5), Some(20));
+/// assert_eq!(length.back(20), Some(5));
+/// assert_eq!(length.back(22), None);
+///
+/// assert_eq!(sheet.length(Slot::PayloadLen), SlotState::Absent);
+/// # Ok::<(), pktfmt_checked::Refusal>(())
+/// ```
+#[derive(Clone, Copy, Debug, PartialEq, Eq)]
+pub struct Length {
+    formula: Formula,
+    field: usize,
+    largest: u64,
 }
 
 /// How a length is worked out of x.
 #[derive(Clone, Copy, Debug, PartialEq, Eq, Hash)]
-pub enum Form {
+pub enum Formula {
     /// x
     X,
     /// x + a
@@ -63,58 +81,83 @@ pub enum Form {
     },
 }
 
-/// Checks a sheet, and tells of one of its lengths.
-pub fn length(sheet: &[u8], slot: SlotName) -> Result<Slot, Refusal> {
-    let mut told = [0; 5];
-    let accepted = ffi::length(sheet, slot as u8, &mut told);
-    Refusal::unless(accepted, told).map(Slot::of_numbers)
-}
-
-impl SlotName {
-    /// All of them, in their order.
-    pub const ALL: [SlotName; 3] = [SlotName::HeaderLen, SlotName::PayloadLen, SlotName::PacketLen];
-}
-
 impl Slot {
-    /// The slot as the library tells it.
-    fn of_numbers([form, first, second, field, largest]: [u64; 5]) -> Slot {
-        let form = match form {
-            0 => return Slot::Undefined,
-            1 => Form::X,
-            2 => Form::Plus { addend: first },
-            3 => Form::Times { factor: first },
-            4 => Form::PlusTimes { addend: first, factor: second },
-            5 => Form::TimesPlus { factor: first, addend: second },
-            6 => return Slot::Absent,
-            other => panic!("pktfmt.h has no form {other}: the library is of another version"),
+    /// All of them, in their order.
+    pub const ALL: [Slot; 3] = [Slot::HeaderLen, Slot::PayloadLen, Slot::PacketLen];
+}
+
+impl SlotState {
+    /// The length, where the sheet says how it is worked out.
+    pub fn defined(self) -> Option<Length> {
+        match self {
+            SlotState::Absent | SlotState::Undefined => None,
+            SlotState::Defined(length) => Some(length),
+        }
+    }
+
+    /// What the library tells of a slot.
+    pub(crate) fn told(ffi::Length { form, first, second, field, largest }: ffi::Length) -> SlotState {
+        let formula = match form {
+            ffi::UNDEFINED => return SlotState::Undefined,
+            ffi::X => Formula::X,
+            ffi::X_PLUS => Formula::Plus { addend: first },
+            ffi::X_TIMES => Formula::Times { factor: first },
+            ffi::PLUS_TIMES => Formula::PlusTimes { addend: first, factor: second },
+            ffi::TIMES_PLUS => Formula::TimesPlus { factor: first, addend: second },
+            ffi::ABSENT => return SlotState::Absent,
+            other => panic!("pktfmt.h has no form {other}"),
         };
-        Slot::Holds { form, field: field as usize, largest }
+        SlotState::Defined(Length { formula, field: field as usize, largest })
     }
 }
 
-impl Form {
+impl Length {
+    /// How it is worked out.
+    pub fn formula(&self) -> Formula {
+        self.formula
+    }
+
+    /// The index of the field whose value is x.
+    pub fn field_index(&self) -> usize {
+        self.field
+    }
+
+    /// The length of that field's largest value.
+    pub fn largest(&self) -> u64 {
+        self.largest
+    }
+
+    /// The length of the value x, unless a step passes 2^64 - 1.
+    pub fn forward(&self, x: u64) -> Option<u64> {
+        self.formula.forward(x)
+    }
+
+    /// The value whose length is y, if there is one and no factor is 0.
+    pub fn back(&self, y: u64) -> Option<u64> {
+        self.formula.back(y)
+    }
+}
+
+impl Formula {
     /// The length of the value x, unless a step passes 2^64 - 1.
     pub fn forward(self, x: u64) -> Option<u64> {
-        let (form, first, second) = self.numbers();
-        let mut told = [0];
-        ffi::forward(form, first, second, x, &mut told).then_some(told[0])
+        ffi::forward(&self.by_numbers(), x)
     }
 
     /// The value whose length is y, if there is one and no factor is 0.
     pub fn back(self, y: u64) -> Option<u64> {
-        let (form, first, second) = self.numbers();
-        let mut told = [0];
-        ffi::back(form, first, second, y, &mut told).then_some(told[0])
+        ffi::back(&self.by_numbers(), y)
     }
 
-    /// The form as the library takes it.
-    fn numbers(self) -> (u8, u64, u64) {
-        match self {
-            Form::X => (1, 0, 0),
-            Form::Plus { addend } => (2, addend, 0),
-            Form::Times { factor } => (3, factor, 0),
-            Form::PlusTimes { addend, factor } => (4, addend, factor),
-            Form::TimesPlus { factor, addend } => (5, factor, addend),
-        }
+    /// The formula as the library takes it.
+    fn by_numbers(self) -> ffi::Length {
+        let (form, first, second) = match self {
+            Formula::X => (ffi::X, 0, 0),
+            Formula::Plus { addend } => (ffi::X_PLUS, addend, 0),
+            Formula::Times { factor } => (ffi::X_TIMES, factor, 0),
+            Formula::PlusTimes { addend, factor } => (ffi::PLUS_TIMES, addend, factor),
+            Formula::TimesPlus { factor, addend } => (ffi::TIMES_PLUS, factor, addend),
+        };
+        ffi::Length { form, first, second, ..ffi::Length::default() }
     }
 }

@@ -1,99 +1,63 @@
-//! Refusals: group, number and place.
+//! Refusals: why, and where.
 
 use std::error::Error;
 use std::fmt;
 
-/// Why something was refused. The reasons are listed in `docs/RULES.md`.
-#[derive(Clone, Copy, Debug, PartialEq, Eq)]
+use crate::ffi;
+use crate::reasons::{CondFault, HeaderFault, LengthFault, Reason, RoomFault, SheetFault};
+
+/// Why something was refused, and where. `docs/RULES.md` has all reasons.
+///
+/// In words it ends with the numbers of that page, the group with the number in it, and the place:
+///
+/// ```
+/// use pktfmt_checked::{HeaderFault, Reason, Sheet};
+///
+/// // The last block alone is a sheet too, of one condition and no field.
+/// let bytes = include_bytes!(concat!(env!("CARGO_MANIFEST_DIR"), "/../examples/rfc791.sheet"));
+/// let refusal = Sheet::new(&bytes[bytes.len() - 512..]).unwrap_err();
+/// assert_eq!(refusal.to_string(), "the condition is on a field that there is not (cond 1, block 0)");
+///
+/// // The first field has 4 bits.
+/// let refusal = Sheet::new(&bytes[..512]).unwrap_err();
+/// assert_eq!(refusal.reason, Reason::Header(HeaderFault::HeaderNotWholeBytes));
+/// assert_eq!(refusal.to_string(), "the header's bits are no whole bytes (header 6, of 1 blocks)");
+/// ```
+#[derive(Clone, Copy, Debug, PartialEq, Eq, Hash)]
 pub struct Refusal {
-    /// The group of reasons.
-    pub group: Group,
-    /// The reason's number in its group.
-    pub number: u64,
-    /// The index of the block at fault, of the field that was asked for, or the number of blocks.
+    /// Why.
+    pub reason: Reason,
+    /// Where: mostly the index of the block at fault. For the group access it is the index of the field that was asked
+    /// for, for header 6, length 1, cond 8 and room 1 the number of blocks, and for sheet 1 it is 0.
     pub place: u64,
 }
 
-/// The groups of refusals.
-#[derive(Clone, Copy, Debug, PartialEq, Eq, Hash)]
-pub enum Group {
-    /// A number that is no byte.
-    Number = 1,
-    /// A word that is no type's name.
-    Type = 2,
-    /// Bytes that are no sheet.
-    Sheet = 3,
-    /// A field that there cannot be.
-    Field = 4,
-    /// Fields that make no header.
-    Header = 5,
-    /// A length that cannot be worked out.
-    Length = 6,
-    /// A condition that there cannot be.
-    Cond = 7,
-    /// A run of bits that has no end.
-    Position = 8,
-    /// A range whose start is excluded.
-    Bound = 9,
-    /// A read or a write that is not allowed.
-    Access = 10,
-    /// A buffer that is too short for the template.
-    Room = 11,
-}
-
 impl Refusal {
-    /// What was told, if the library answered true, or the refusal that it told instead, for which there has to be room.
-    pub(crate) fn unless<const N: usize>(accepted: bool, told: [u64; N]) -> Result<[u64; N], Refusal> {
-        const { assert!(N >= 3) };
-        if accepted {
-            Ok(told)
-        } else {
-            Err(Refusal { group: Group::of_code(told[0]), number: told[1], place: told[2] })
-        }
-    }
-}
-
-impl Group {
-    const ALL: [Group; 11] = [
-        Group::Number,
-        Group::Type,
-        Group::Sheet,
-        Group::Field,
-        Group::Header,
-        Group::Length,
-        Group::Cond,
-        Group::Position,
-        Group::Bound,
-        Group::Access,
-        Group::Room,
-    ];
-
-    /// The group's name in the rules.
-    pub fn name(self) -> &'static str {
-        match self {
-            Group::Number => "number",
-            Group::Type => "type",
-            Group::Sheet => "sheet",
-            Group::Field => "field",
-            Group::Header => "header",
-            Group::Length => "length",
-            Group::Cond => "cond",
-            Group::Position => "position",
-            Group::Bound => "bound",
-            Group::Access => "access",
-            Group::Room => "room",
-        }
-    }
-
-    fn of_code(code: u64) -> Group {
-        let group = Self::ALL.into_iter().find(|group| *group as u64 == code);
-        group.unwrap_or_else(|| panic!("pktfmt.h has no group {code}: the library is of another version"))
+    /// The refusal as the library tells it. Accepted reads and writes are to be fast, so this is kept out of them.
+    #[cold]
+    pub(crate) fn told(ffi::Refusal { group, number, place }: ffi::Refusal) -> Refusal {
+        let reason = Reason::of_numbers(group, number);
+        Refusal { reason: reason.unwrap_or_else(|| panic!("the rules have no reason {group}, {number}")), place }
     }
 }
 
 impl fmt::Display for Refusal {
     fn fmt(&self, f: &mut fmt::Formatter<'_>) -> fmt::Result {
-        write!(f, "refused {} {} {}", self.group.name(), self.number, self.place)
+        let Refusal { reason, place } = self;
+        write!(f, "{} ({} {}", reason.words(), reason.group().name(), reason.number())?;
+        match reason {
+            Reason::Number(_) | Reason::Type(_) | Reason::Position(_) | Reason::Bound(_) => {}
+            Reason::Sheet(SheetFault::WrongLength) => {}
+            Reason::Header(HeaderFault::HeaderNotWholeBytes)
+            | Reason::Length(LengthFault::PayloadAndPacketGiven)
+            | Reason::Cond(CondFault::OverEightEntries)
+            | Reason::Room(RoomFault::BufferUnderHeader) => write!(f, ", of {place} blocks")?,
+            Reason::Access(_) => write!(f, ", field {place}")?,
+            Reason::Sheet(_) | Reason::Field(_) | Reason::Header(_) | Reason::Length(_) | Reason::Cond(_) => {
+                write!(f, ", block {place}")?
+            }
+        }
+        f.write_str(")")
     }
 }
 

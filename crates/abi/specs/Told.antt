@@ -1,38 +1,56 @@
--- How the boundary hands an answer out: numbers at the front of a lent slice. Assumes nothing.
+-- How the boundary hands an answer out: whether there was no refusal, the answer in numbers, and the refusal in three. Assumes nothing.
 use mathlib.Core.Path.{_≡_}
 use mathlib.Core.Bool.{Bool}
-use mathlib.Core.List.{List, [], _∷_}
+use mathlib.Core.List.{List, [], _∷_, _++_}
 use mathlib.Core.Option.{Option, none, some}
-use Prim.Native.Nat.{ℕ, _+_}
-use lib.ListN.{set}
+use Prim.Native.Nat.{ℕ, zero, suc, _-_}
+use lib.ListN.{replicate}
 use Rattle.answer.specs.Paper.{Answer, gives, refused, isGiven, groupNumber}
 use Rattle.answer.specs.Walk.{isSome}
 
--- numbers go into a slice one after the other, from an index on; past its end none does, and the rest stays as it was
-unfoldable pub laid : List ℕ → ℕ → List ℕ → List ℕ
-laid [] at b = b
-laid (n ∷ ns) at b = laid ns (at + 1) (set b at n)
+-- ---- the refusal: its group, its number and its place. Where there is none, what was there stays
 
--- what is told: of a value its numbers, of a refusal its group, its number and its place
-abbrev pub toldOf : {A : Type 0} → (A → List ℕ) → Answer A → List ℕ
-toldOf numbers (gives a) = numbers a
-toldOf numbers (refused g n at) = groupNumber g ∷ n ∷ at ∷ []
+abbrev pub whyAfter : {A : Type 0} → Answer A → List ℕ → List ℕ
+whyAfter (gives a) why = why
+whyAfter (refused g n at) why = groupNumber g ∷ n ∷ at ∷ []
 
--- a check tells nothing where it accepts
-abbrev pub nothing : Unit {0} → List ℕ
-nothing _ = []
-
--- r says whether an answer is no refusal, and slice b with what is told in front is b'
-pub record Told {A : Type 0} (numbers : A → List ℕ) (answer : Answer A) (b b' : List ℕ) (r : Bool) : Type 0 where
+-- r says whether an answer is no refusal, and what stood where a refusal goes, why, is why' after it
+pub record Answered {A : Type 0} (answer : Answer A) (why why' : List ℕ) (r : Bool) : Type 0 where
   pub given : r ≡ isGiven answer
-  pub told : b' ≡ laid (toldOf numbers answer) 0 b
+  pub told : why' ≡ whyAfter answer why
 
--- ---- a number, where there is one
+-- ---- the answer: what is told of a value; zeros where there is none
 
-abbrev pub oneNumber : Option ℕ → List ℕ
-oneNumber (some n) = n ∷ []
-oneNumber none = []
+abbrev pub zeros : ℕ → List ℕ
+zeros n = replicate n 0
 
-pub record Found (number : Option ℕ) (b b' : List ℕ) (r : Bool) : Type 0 where
+abbrev pub toldOr : {A X : Type 0} → X → (A → X) → Answer A → X
+toldOr none-told numbers (gives a) = numbers a
+toldOr none-told numbers (refused g n at) = none-told
+
+-- and so it is told: x where an answer goes, and the refusal beside it
+pub record Told {A X : Type 0} (none-told : X) (numbers : A → X) (answer : Answer A) (x : X) (why why' : List ℕ) (r : Bool) : Type 0 where
+  pub answered : Answered answer why why' r
+  pub told : x ≡ toldOr none-told numbers answer
+
+-- ---- a number where there is one, else 0
+
+abbrev pub numberOr : Option ℕ → List ℕ
+numberOr (some n) = n ∷ []
+numberOr none = 0 ∷ []
+
+-- r says whether there is one, and b is what stands where it goes
+pub record Found (number : Option ℕ) (b : List ℕ) (r : Bool) : Type 0 where
   pub there : r ≡ isSome number
-  pub told : b' ≡ laid (oneNumber number) 0 b
+  pub told : b ≡ numberOr number
+
+-- ---- rows of as many numbers each
+
+-- the first n rows of a table
+unfoldable pub firstRows : {A : Type 0} → (ℕ → A) → ℕ → List A
+firstRows row zero = []
+firstRows row (suc n) = firstRows row n ++ (row n ∷ [])
+
+-- and empty ones after them, up to `size` in all
+unfoldable pub rows : {A : Type 0} → A → ℕ → (ℕ → A) → ℕ → List A
+rows empty size row n = firstRows row n ++ replicate (size - n) empty

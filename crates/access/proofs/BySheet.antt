@@ -17,10 +17,10 @@ use Rattle.answer.specs.Paper.{Answer, gives, refused, Check, accepted, refusal
 use Rattle.answer.proofs.Chains.{andThen-assoc, stand, both-is, refuse-is, given, not-given}
 use Rattle.answer.proofs.Tests.{leb-is-not}
 use Rattle.answer.proofs.OneToOne.{refusal-one, verdict-one}
+use Rattle.number.specs.declared.Bytes.{Bytes}
 use Rattle.bits.specs.declared.BitPos.{BitPos}
 use Rattle.bits.specs.Positions.{globalOf}
 use Rattle.sheet.specs.Blocks.{fieldCount}
-use Rattle.types.specs.Types.{isSlice}
 use Rattle.field.specs.declared.Field.{Field}
 use Rattle.field_blocks.specs.Step.{fieldAt}
 use Rattle.layout.specs.Layout.{field, bits}
@@ -33,11 +33,10 @@ use Rattle.definition.specs.declared.FieldWithStart.{FieldWithStart}
 use Rattle.definition.specs.Definition.{definitionCheck, Accepted}
 use Rattle.definition.specs.Unchecked.{fieldWithStart, fieldWithStartSays}
 use Rattle.definition.proofs.Unchecked.{field-given, no-field}
-use Rattle.locator.specs.declared.Held.{Held}
 use Rattle.locator.specs.declared.Locator.{Locator}
-use Rattle.locator.specs.Locator.{reachAt, readAt, WrittenAt}
+use Rattle.locator.specs.Locator.{reachAt, writeCheckAt, readAt, applyAt, WrittenAt}
 use Rattle.access.specs.declared.LocatorAnswer.{LocatorAnswer}
-use Rattle.access.specs.Access.{sheetReach, sheetRead, sheetWriteCheck, sheetApply, SheetWritten, heldOf, locatorOf, locatorCheck, locatorIn, locatorAnswerSays}
+use Rattle.access.specs.Access.{sheetReach, sheetRead, sheetWriteCheck, sheetApply, SheetWritten, locatorFor, locatorOf, locatorCheck, locatorIn, locatorAnswerSays}
 use Rattle.access.proofs.Locators.{reach-same, read-same, write-check-same, apply-same}
 
 -- ---- the locator of a field of an accepted sheet
@@ -51,18 +50,18 @@ module _ (s : List ℕ) (i : ℕ) (ok : Accepted s) {n : FieldWithStart} (said :
       by-count (yes h) = let e = sym (ap fieldWithStartSays is) ∙ said ∙ field-given s i ok h in cc
       by-count (no h) = rw (ok, le-leb (fieldCount s) i (omega arith))
 
-  pub locator-at : {f : Field} {start : BitPos} {held : Held} → n ≡ FieldWithStart.Is f start → held ≡ heldOf (isSlice (f .repr)) f
-      → gives (record { index = i; header = record { 0 = headerBytes s }; start = start; width = f .width; held = held }) ≡ locatorIn s i
+  pub locator-at : {f : Field} {start : BitPos} {header : Bytes} {p : Locator} → n ≡ FieldWithStart.Is f start → header .0 ≡ headerBytes s → p ≡ locatorFor i header start f
+      → gives p ≡ locatorIn s i
   unfolding locatorCheck
-  locator-at {f} {start} {held} is held-is = by-count (decLt i (fieldCount s))
+  locator-at {f} {start} {header} {p} is bytes p-is = by-count (decLt i (fieldCount s))
     where
-      by-count : Dec (i < fieldCount s) → gives (record { index = i; header = record { 0 = headerBytes s }; start = start; width = f .width; held = held }) ≡ locatorIn s i
+      by-count : Dec (i < fieldCount s) → gives p ≡ locatorIn s i
       by-count (yes h) =
           let e = sym (ap fieldWithStartSays is) ∙ said ∙ field-given s i ok h in
           let same : _≡_ {A = Field × ℕ} (f, globalOf start) (fieldAt s i, startAt s i) = cc in
           let same-field : f ≡ fieldAt s i = ap (λ (q : Field × ℕ). q .0) same in
           let same-start : globalOf start ≡ startAt s i = ap (λ (q : Field × ℕ). q .1) same in
-          rw (ok, lt-leb (fieldCount s) i h, held-is, same-field, ← same-start)
+          rw (ok, lt-leb (fieldCount s) i h, p-is, same-field, ← same-start, ← bytes)
       by-count (no h) = let e = sym (ap fieldWithStartSays is) ∙ said ∙ no-field s i (omega arith) in cc
 
 -- what the program was told of a locator: it is that of a field, or the refusal
@@ -163,13 +162,14 @@ module _ (s : List ℕ) (i : ℕ) {p : Locator} (e : locatorIn s i ≡ gives p) 
   pub read-there : (b : List ℕ) (asBytes : Bool) → readAt p b asBytes ≡ sheetRead s b asBytes i
   read-there b asBytes = rw (← (found .1)) (read-same s (there .0) i (there .1) b asBytes ∙ sym (read-is s (there .0) b asBytes i))
 
+  pub write-check-there : (n : ℕ) (v : Value) → writeCheckAt p n v ≡ sheetWriteCheck s n (write i v)
+  write-check-there n v = rw (← (found .1)) (write-check-same s (there .0) i (there .1) n v ∙ sym (write-check-is s (there .0) n (write i v)))
+
+  pub apply-there : (b : List ℕ) (v : Value) → applyAt p b v ≡ sheetApply s b (write i v)
+  apply-there b v = rw (← (found .1)) (apply-same s (there .0) i (there .1) b v ∙ sym (apply-is s (there .0) b (write i v)))
+
   pub written-there : {b c : List ℕ} {v : Value} {r : Verdict} → WrittenAt p b c v r → SheetWritten s b c (write i v) r
-  written-there {b} {c} {v} w =
-      let at = rw (← (found .1)) at w in
-      record {
-        answer = at .answer ∙ write-check-same s (there .0) i (there .1) (length b) v ∙ sym (write-check-is s (there .0) (length b) (write i v));
-        bytes = at .bytes ∙ apply-same s (there .0) i (there .1) b v ∙ sym (apply-is s (there .0) b (write i v));
-      }
+  written-there {b} {c} {v} w = record { answer = w .answer ∙ write-check-there (length b) v; bytes = w .bytes ∙ apply-there b v }
 
 -- ---- one answer
 

@@ -8,6 +8,8 @@ use lib.ListN.{length}
 use Rattle.answer.specs.declared.Group.{Group}
 use Rattle.answer.specs.declared.Verdict.{Verdict}
 use Rattle.answer.specs.Paper.{Answer, gives, Check, refusalSays, verdictSays, refuse, _andThen_}
+use Rattle.number.specs.declared.Bytes.{Bytes}
+use Rattle.bits.specs.declared.BitPos.{BitPos}
 use Rattle.sheet.specs.Blocks.{fieldCount}
 use Rattle.types.specs.Types.{isSlice}
 use Rattle.field.specs.declared.DefaultVal.{DefaultVal}
@@ -54,16 +56,12 @@ abbrev pub heldOf : Bool → Field → Held
 heldOf true f = Held.Bytes
 heldOf false f = Held.Number (defaultOrZero (f .default)) (f .fixed)
 
+-- where a field with this record stands
+abbrev pub locatorFor : ℕ → Bytes → BitPos → Field → Locator
+locatorFor i header start f = record { index = i; header = header; start = start; width = f .width; held = heldOf (isSlice (f .repr)) f }
+
 abbrev pub locatorOf : List ℕ → ℕ → Locator
-locatorOf s i =
-    let f = fieldAt s i in
-    record {
-      index = i;
-      header = record { 0 = headerBytes s };
-      start = record { global = record { 0 = startAt s i } };
-      width = f .width;
-      held = heldOf (isSlice (f .repr)) f;
-    }
+locatorOf s i = locatorFor i (record { 0 = headerBytes s }) (record { global = record { 0 = startAt s i } }) (fieldAt s i)
 
 unfoldable pub locatorCheck : List ℕ → ℕ → Check
 locatorCheck s i = definitionCheck s andThen refuse (leb (fieldCount s) i) Group.Access 1 i

@@ -3,6 +3,7 @@
 use answer::AccessFault;
 use answer::Refusal;
 use answer::Verdict;
+use bits::BitPos;
 use definition::FieldWithStart;
 use field::DefaultVal;
 use field::Field;
@@ -20,7 +21,7 @@ ghost use Rattle.layout.specs.Access.{number as aNumber, bytes as someBytes, wr
 ghost use Rattle.header.specs.Step.{headerBytes};
 ghost use Rattle.definition.specs.Definition.{Accepted};
 ghost use Rattle.locator.specs.Locator.{numberAnswerSays, partOf};
-ghost use Rattle.access.specs.Access.{sheetReach, sheetRead, SheetWritten, defaultOrZero, heldOf, locatorIn, locatorAnswerSays};
+ghost use Rattle.access.specs.Access.{sheetReach, sheetRead, SheetWritten, defaultOrZero, heldOf, locatorFor, locatorIn, locatorAnswerSays};
 
 pub enum LocatorAnswer {
     Is(Locator),
@@ -51,6 +52,20 @@ fn held_of(f: Field) -> Held
     Held::Number(default_or_zero(default), f.fixed)
 }
 
+// The locator of field i, whose record this is, in a header of so many bytes.
+pub fn locator_for(i: usize, header: Bytes, start: BitPos, f: Field) -> Locator
+    ensures { λ r. ⌜ r ≡ locatorFor i header start f ⌝ }
+{
+    let width = f.width;
+    Locator {
+        index: i,
+        header,
+        start,
+        width,
+        held: held_of(f),
+    }
+}
+
 // The locator of field i of an accepted sheet, whose header has so many bytes; or access 1.
 fn locator_of(s: &[u8], i: usize, header: Bytes) -> LocatorAnswer
     requires { ⌜ Accepted (now s) ⌝ }
@@ -62,16 +77,7 @@ fn locator_of(s: &[u8], i: usize, header: Bytes) -> LocatorAnswer
             AccessFault::NoSuchField,
             i,
         )),
-        FieldWithStart::Is(f, start) => {
-            let width = f.width;
-            LocatorAnswer::Is(Locator {
-                index: i,
-                header,
-                start,
-                width,
-                held: held_of(f),
-            })
-        }
+        FieldWithStart::Is(f, start) => LocatorAnswer::Is(locator_for(i, header, start, f)),
     }
 }
 

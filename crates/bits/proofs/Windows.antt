@@ -16,11 +16,12 @@ use borrow.Author.Tests.{lt-ltb, le-ltb}
 use Rattle.answer.proofs.Tests.{clash}
 use Rattle.octets.specs.Octets.{AreBytes, byte, be}
 use Rattle.bits.specs.declared.Fit.{Fit}
+use Rattle.bits.specs.declared.NumberSeen.{NumberSeen}
 use Rattle.bits.specs.declared.NumberWrite.{NumberWrite}
 use Rattle.bits.specs.declared.BytesWrite.{BytesWrite}
 use Rattle.bits.specs.Bits.{bit, num, value, touched}
 use Rattle.bits.specs.Writes.{newBit, put}
-use Rattle.bits.specs.Runs.{fitOf, readAs, readNumber, writeAs, writeAnswer, isDone, bytesAnswer, bytesAs, bytesAt}
+use Rattle.bits.specs.Runs.{fitOf, seen, readAs, readNumber, writeAs, writeAnswer, isDone, bytesAnswer, bytesAs, bytesAt}
 use Rattle.bits.proofs.Num.{num-ext, num-digits, num-split, num-first, num-at}
 use Rattle.bits.proofs.Bits.{bit-same, value-lt, value-byte, value-be}
 use Rattle.bits.proofs.Put.{by-run, new-before, new-in, new-after, new-lt, put-ext, put-length, put-bytes}
@@ -330,6 +331,17 @@ module _ (n h f c : ℕ) where
 pub read-is : (b : List ℕ) (h s w : ℕ) (f : Fit) → fitOf (length b) h s w ≡ f → readNumber b h s w ≡ readAs f (value b s w)
 unfolding readNumber
 read-is b h s w f e = ap (λ (x : Fit). readAs x (value b s w)) e
+
+-- a run that does not fit is not seen
+pub unseen : (b : List ℕ) (h s w : ℕ) → fits (fitOf (length b) h s w) ≡ false → seen (readNumber b h s w) ≡ NumberSeen.None
+unfolding readNumber
+unseen b h s w = of (fitOf (length b) h s w)
+  where
+    of : (f : Fit) → fits f ≡ false → seen (readAs f (value b s w)) ≡ NumberSeen.None
+    of Fit.Fits e = clash e
+    of Fit.TooWide e = refl
+    of Fit.Outside e = refl
+    of Fit.Short e = refl
 
 pub write-is : (n h s w v : ℕ) (f : Fit) → fitOf n h s w ≡ f → writeAnswer n h s w v ≡ writeAs f w v
 unfolding writeAnswer

@@ -7,6 +7,7 @@ use lib.Dec.{leb, ltb}
 use lib.ListN.{length, take, drop}
 use Rattle.bits.specs.declared.Fit.{Fit}
 use Rattle.bits.specs.declared.NumberRead.{NumberRead}
+use Rattle.bits.specs.declared.NumberSeen.{NumberSeen}
 use Rattle.bits.specs.declared.NumberWrite.{NumberWrite}
 use Rattle.bits.specs.declared.BytesWrite.{BytesWrite}
 use Rattle.bits.specs.Bits.{value, touched}
@@ -28,6 +29,16 @@ readAs Fit.Short v = NumberRead.Short
 
 unfoldable pub readNumber : List ℕ → ℕ → ℕ → ℕ → NumberRead
 readNumber b h s w = readAs (fitOf (length b) h s w) (value b s w)
+
+-- a read at once is one that gives the number, and of a buffer of 8 bytes at least
+abbrev pub seen : NumberRead → NumberSeen
+seen (NumberRead.Number v) = NumberSeen.Is v
+seen NumberRead.TooWide = NumberSeen.None
+seen NumberRead.Outside = NumberSeen.None
+seen NumberRead.Short = NumberSeen.None
+
+abbrev pub readAtOnce : List ℕ → ℕ → ℕ → ℕ → NumberSeen
+readAtOnce b h s w = cond (leb 8 (length b)) (seen (readNumber b h s w)) NumberSeen.None
 
 -- v is too large where it has more than w bits
 abbrev pub writeAs : Fit → ℕ → ℕ → NumberWrite

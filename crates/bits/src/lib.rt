@@ -12,7 +12,7 @@ ghost use Rattle.octets.specs.Octets.{AreBytes, be};
 ghost use Rattle.bits.specs.Bits.{value, spelled, touched as touchedBy};
 ghost use Rattle.bits.specs.Positions.{globalOf, endPos, endPosSays};
 ghost use Rattle.bits.specs.Writes.{put, putBytes};
-ghost use Rattle.bits.specs.Runs.{fitOf, readNumber, NumberWritten, NumberAtOnce, bytesAnswer, bytesAt, BytesWritten};
+ghost use Rattle.bits.specs.Runs.{fitOf, readNumber, readAtOnce, NumberWritten, NumberAtOnce, bytesAnswer, bytesAt, BytesWritten};
 ghost use Rattle.bits.specs.Working.{fits, pasted};
 
 // The position of a bit: its number, counted from the header's first bit on.
@@ -40,6 +40,12 @@ pub enum NumberRead {
     TooWide,
     Outside,
     Short,
+}
+
+// A number that was read at once, or none.
+pub enum NumberSeen {
+    Is(u64),
+    None,
 }
 
 // A number that has more bits than the run is too large for it.
@@ -237,18 +243,26 @@ fn zero_out(buf: &mut [u8], from: usize, count: usize)
     }
 }
 
-// The number that a run spells, which fits.
+// The number that a run spells, which fits: one load.
+fn read_window(buf: &[u8], start: BitPos, width: Bits) -> u64
+    requires { ⌜ 8 ≤ length (now buf) ⌝ }
+    requires { ⌜ (globalOf start % 8 + width .0 ≤ 64) × (globalOf start + width .0 ≤ 8 * length (now buf)) ⌝ }
+    ensures { λ r. ⌜ r ≡ value (now (buf .entry)) (globalOf start) (width .0) ⌝ }
+{
+    let f = window_at(buf.len(), start);
+    let x = octets::be64(&buf[f..f + 8], 0);
+    cut(x, start.global.0 - 8 * f as u64, width.0)
+}
+
+// The same, of a short buffer too.
 fn read_fitting(buf: &[u8], start: BitPos, width: Bits) -> u64
     requires { ⌜ (globalOf start % 8 + width .0 ≤ 64) × (globalOf start + width .0 ≤ 8 * length (now buf)) ⌝ }
     ensures { λ r. ⌜ r ≡ value (now (buf .entry)) (globalOf start) (width .0) ⌝ }
 {
-    let s = start.global.0;
     if buf.len() < 8 {
-        return cut(short_window(buf), s, width.0);
+        return cut(short_window(buf), start.global.0, width.0);
     }
-    let f = window_at(buf.len(), start);
-    let x = octets::be64(&buf[f..f + 8], 0);
-    cut(x, s - 8 * f as u64, width.0)
+    read_window(buf, start, width)
 }
 
 // The number that the bits of a run spell.
@@ -261,6 +275,21 @@ pub fn read_number(buf: &[u8], within: Bytes, start: BitPos, width: Bits) -> Num
         Fit::Short => NumberRead::Short,
         Fit::Fits => NumberRead::Number(read_fitting(buf, start, width)),
     }
+}
+
+// Reads a number by one load, where `read_number` would and the buffer has 8 bytes. Most reads are such, and this is small enough to be compiled into where they
+// are made.
+pub fn read_at_once(buf: &[u8], within: Bytes, start: BitPos, width: Bits) -> NumberSeen
+    ensures { λ r. ⌜ r ≡ readAtOnce (now (buf .entry)) (within .0) (globalOf start) (width .0) ⌝ }
+{
+    if buf.len() < 8 {
+        return NumberSeen::None;
+    }
+    let fit = fit_of(buf.len(), within, start, width);
+    if !fit.fits() {
+        return NumberSeen::None;
+    }
+    NumberSeen::Is(read_window(buf, start, width))
 }
 
 // Writes a number, which has no more bits, into a run, which fits: the 8 bytes that hold it are stored again.

@@ -88,7 +88,8 @@ fn infer_repr(width: Bits) -> BuiltinTypes
     BuiltinTypes::ByteSlice
 }
 
-fn repr_or_inferred(width: Bits, repr: DefinedRepr) -> BuiltinTypes
+// How a field of this width is held, by what is stated of it.
+pub fn repr_or_inferred(width: Bits, repr: DefinedRepr) -> BuiltinTypes
     ensures { λ r. ⌜ r ≡ reprOf (width .0) repr ⌝ }
 {
     match repr {

@@ -114,6 +114,13 @@ pub fn resolved(b: &[u8]) -> Field
     Field::resolved(bits_in(b), repr_in(b), arg_in(b), default_in(b), gen_in(b))
 }
 
+// How its field is held, as `resolved` has it.
+pub fn repr_of(b: &[u8]) -> BuiltinTypes
+    ensures { λ r. ⌜ r ≡ (resolvedIn (now (b .entry))) .repr ⌝ }
+{
+    field::repr_or_inferred(bits_in(b), repr_in(b))
+}
+
 // Field 1 to 7 of an F block; a refusal has the place given.
 fn check_block(b: &[u8], place: usize) -> Verdict
     ensures { λ r. ⌜ verdictSays r ≡ blockCheck (now (b .entry)) place ⌝ }

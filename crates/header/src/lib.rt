@@ -5,7 +5,6 @@ use answer::Refusal;
 use answer::Verdict;
 use bits::BitPos;
 use blocks::name;
-use field::Field;
 use number::Bits;
 use number::Bytes;
 use octets::be16;
@@ -22,6 +21,7 @@ ghost use Rattle.answer.specs.Walk.{isSome};
 ghost use Rattle.octets.specs.Octets.{be, same};
 ghost use Rattle.bits.specs.Positions.{globalOf};
 ghost use Rattle.blocks.specs.Layout.{nameOf};
+ghost use Rattle.field.specs.Sound.{widthOf};
 ghost use Rattle.field_blocks.specs.Step.{fieldAt};
 ghost use Rattle.header.specs.Names.{namedAmong, fieldNamed, fieldIndexSays, isReserved};
 ghost use Rattle.header.specs.Starts.{startAt, startOf, fieldStartSays};
@@ -123,13 +123,6 @@ fn is_reserved(wanted: &[u8]) -> bool
 
 // ---- positions
 
-// The field of F block i.
-fn field_at(s: &[u8], i: usize) -> Field
-    ensures { λ r. ⌜ (r ≡ fieldAt (now (s .entry)) i) × (r .width .0 < 2 ^ 32) ⌝ }
-{
-    field_blocks::resolved(sheet::block(s, i))
-}
-
 // The bits of the first n fields together.
 fn bits_before(s: &[u8], n: usize) -> Bits
     requires { ⌜ n ≤ 64 ⌝ }
@@ -184,17 +177,23 @@ fn refuse(test: bool, fault: HeaderFault, i: usize) -> Verdict
     Verdict::refuse(test, Refusal::Header(fault, i))
 }
 
-// Header 1 to 5 of field i: by whether its name was used before, where it starts and what it is.
-fn field_fault(s: &[u8], i: usize, used: bool, start: Bits, f: Field) -> Verdict
+// Header 1 to 5 of field i: by whether its name was used before, where it starts, how wide it is and how it is held.
+fn field_fault(
+    s: &[u8],
+    i: usize,
+    used: bool,
+    start: Bits,
+    width: Bits,
+    repr: BuiltinTypes,
+) -> Verdict
     requires { ⌜ used ≡ usedBefore (now s) i ⌝ }
     requires { ⌜ start .0 ≡ startAt (now s) i ⌝ }
-    requires { ⌜ f ≡ fieldAt (now s) i ⌝ }
-    requires { ⌜ start .0 + f .width .0 < 2 ^ 64 ⌝ }
+    requires { ⌜ width .0 ≡ widthOf (fieldAt (now s) i) ⌝ }
+    requires { ⌜ repr ≡ (fieldAt (now s) i) .repr ⌝ }
+    requires { ⌜ start .0 + width .0 < 2 ^ 64 ⌝ }
     ensures { λ r. ⌜ verdictSays r ≡ headerFault (now (s .entry)) i ⌝ }
 {
     let at = BitPos::new(start);
-    let width = f.width;
-    let repr = f.repr;
     let again = refuse(used, HeaderFault::NameUsedBefore, i);
     let reserved = refuse(
         is_reserved(name(sheet::block(s, i))),
@@ -221,15 +220,18 @@ impl Header {
         let mut bits = Bits(0);
         let mut i = 0;
         while i < n {
-            let called = name(sheet::block(s, i));
+            let b = sheet::block(s, i);
+            let called = name(b);
             let k = key(called) as usize;
-            let f = field_at(s, i);
-            let v = field_fault(s, i, used_before(s, called, i, keys[k]), bits, f);
+            let width = field_blocks::bits_in(b);
+            let repr = field_blocks::repr_of(b);
+            let used = used_before(s, called, i, keys[k]);
+            let v = field_fault(s, i, used, bits, width, repr);
             if let Verdict::Refused(reason) = v {
                 return NewHeader::Refused(reason);
             }
             keys[k] = true;
-            bits = Bits(bits.0 + f.width.0);
+            bits = Bits(bits.0 + width.0);
             i += 1;
         }
         if !bits.is_whole_bytes() {

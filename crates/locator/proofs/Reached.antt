@@ -17,11 +17,12 @@ use Rattle.answer.proofs.Tests.{clash, same-test, both-hold, neither, one-or-ot
 use Rattle.answer.proofs.OneToOne.{refusal-one, verdict-one}
 use Rattle.number.specs.Numbers.{maxBytes}
 use Rattle.bits.specs.declared.NumberRead.{NumberRead}
+use Rattle.bits.specs.declared.NumberSeen.{NumberSeen}
 use Rattle.bits.specs.declared.NumberWrite.{NumberWrite}
 use Rattle.bits.specs.declared.BytesWrite.{BytesWrite}
 use Rattle.bits.specs.Bits.{value, spelled, touched}
 use Rattle.bits.specs.Writes.{put}
-use Rattle.bits.specs.Runs.{readAs, readNumber, writeAs, writeAnswer, isDone, afterNumber, NumberWritten, NumberAtOnce, bytesAs, bytesAt, afterBytes, BytesWritten}
+use Rattle.bits.specs.Runs.{readAs, readNumber, seen, readAtOnce, writeAs, writeAnswer, isDone, afterNumber, NumberWritten, NumberAtOnce, bytesAs, bytesAt, afterBytes, BytesWritten}
 use Rattle.bits.proofs.Windows.{by-fit, by-place}
 use Rattle.layout.specs.Access.{Value, number, bytes, ofBytes, spells, OfSize, reachBy, suit, runValue, after}
 use Rattle.layout.proofs.Access.{kind-is, fits-is, fixed-is}
@@ -29,7 +30,7 @@ use Rattle.locator.specs.declared.Held.{Held}
 use Rattle.locator.specs.declared.Locator.{Locator}
 use Rattle.locator.specs.declared.NumberAnswer.{NumberAnswer}
 use Rattle.locator.specs.Working.{barsNumber}
-use Rattle.locator.specs.Locator.{locatorHeader, firstBit, locatorWidth, heldIsBytes, isNumberOf, isBytesOf, hasShape, isLocator, heldDefault, heldFixed, fieldLocated, reachAt, writeCheckAt, readAt, applyAt, WrittenAt, WrittenAtOnce, numberAnswerSays, partOf}
+use Rattle.locator.specs.Locator.{locatorHeader, firstBit, locatorWidth, heldIsBytes, isNumberOf, isBytesOf, hasShape, isLocator, heldDefault, heldFixed, fieldLocated, reachAt, writeCheckAt, readAt, seenOf, seenAt, applyAt, WrittenAt, WrittenAtOnce, numberAnswerSays, partOf}
 
 -- ---- counts of bits held against counts of bytes
 
@@ -194,6 +195,44 @@ module _ (p : Locator) (b : List ℕ) where
         (λ _ past. rw (access-1 p (length b) false (λ at. omega (arith, at .inside))))
         (λ l inside short. rw (access-2 p (length b) false (stands l inside) short))
         (λ l inside long. rw (reached-is p (length b) false .1 (record { located = stands l inside; long = long; kind = sym kind })))
+
+-- ---- a read at once
+
+-- what a read of the run says is seen so
+seen-told : (i : ℕ) (r : NumberRead) → seen r ≡ seenOf (numberToldAt i r)
+seen-told i (NumberRead.Number v) = refl
+seen-told i NumberRead.TooWide = refl
+seen-told i NumberRead.Outside = refl
+seen-told i NumberRead.Short = refl
+
+module _ (p : Locator) (b : List ℕ) where
+  pub number-seen : ltb maxBytes (locatorHeader p) ≡ false → isNumberOf (p .held) (locatorWidth p) ≡ true → readAtOnce b (locatorHeader p) (firstBit p) (locatorWidth p) ≡ seenAt p b
+  number-seen few holds =
+      let r = readNumber b (locatorHeader p) (firstBit p) (locatorWidth p) in
+      ap (λ (x : NumberSeen). cond (leb 8 (length b)) x NumberSeen.None) (seen-told (p .index) r ∙ ap seenOf (number-told p b few holds {r = r} refl))
+
+  -- where no number is reached, none is seen
+  pub not-seen : (reachAt p (length b) false ≡ accepted → ⊥) → NumberSeen.None ≡ seenAt p b
+  unfolding readAt
+  not-seen never = of (leb 8 (length b)) (reachAt p (length b) false) never
+    where
+      read : Value
+      read = runValue b false (firstBit p) (locatorWidth p)
+
+      of : (long : Bool) (x : Check) → (x ≡ accepted → ⊥) → NumberSeen.None ≡ cond long (seenOf (x andThen gives read)) NumberSeen.None
+      of true (gives _) none = absurd (none refl)
+      of true (refused g n at) none = refl
+      of false x none = refl
+
+  -- and a number that is seen is the one that is read
+  pub seen-is : {v : ℕ} → NumberSeen.Is v ≡ seenAt p b → readAt p b false ≡ gives (number v)
+  seen-is {v} = of (leb 8 (length b)) (readAt p b false)
+    where
+      of : (long : Bool) (x : Answer Value) → NumberSeen.Is v ≡ cond long (seenOf x) NumberSeen.None → x ≡ gives (number v)
+      of true (gives (number w)) e = cc
+      of true (gives (bytes l)) e = cc
+      of true (refused g n at) e = cc
+      of false x e = cc
 
 -- ---- reads of bytes
 

@@ -9,6 +9,7 @@ use lib.ListN.{length}
 use Rattle.answer.specs.declared.Verdict.{Verdict}
 use Rattle.answer.specs.Paper.{Answer, gives, refused, Check, isGiven, refusalSays, verdictSays, _andThen_}
 use Rattle.number.specs.Numbers.{maxBytes}
+use Rattle.bits.specs.declared.NumberSeen.{NumberSeen}
 use Rattle.bits.specs.Bits.{touched}
 use Rattle.bits.specs.Positions.{globalOf}
 use Rattle.bits.specs.Writes.{put}
@@ -80,6 +81,15 @@ writeCheckAt p n v = reachAt p n (ofBytes v) andThen suit (fieldLocated p) v (p 
 
 unfoldable pub readAt : Locator → List ℕ → Bool → Answer Value
 readAt p b asBytes = reachAt p (length b) asBytes andThen gives (runValue b asBytes (firstBit p) (locatorWidth p))
+
+-- a read at once gives the number where there is one and the buffer has 8 bytes
+abbrev pub seenOf : Answer Value → NumberSeen
+seenOf (gives (number v)) = NumberSeen.Is v
+seenOf (gives (bytes l)) = NumberSeen.None
+seenOf (refused g n at) = NumberSeen.None
+
+abbrev pub seenAt : Locator → List ℕ → NumberSeen
+seenAt p b = cond (leb 8 (length b)) (seenOf (readAt p b false)) NumberSeen.None
 
 unfoldable pub applyAt : Locator → List ℕ → Value → List ℕ
 applyAt p b v = after (writeCheckAt p (length b) v) (put b (firstBit p) (locatorWidth p) (spells v)) b

@@ -6,6 +6,7 @@ use answer::Verdict;
 use bits::BitPos;
 use bits::BytesWrite;
 use bits::NumberRead;
+use bits::NumberSeen;
 use bits::NumberWrite;
 use number::Bits;
 use number::Bytes;
@@ -19,7 +20,7 @@ ghost use Rattle.answer.specs.Paper.{accessNumber, refusalSays, verdictSays, re
 ghost use Rattle.bits.specs.Positions.{globalOf};
 ghost use Rattle.layout.specs.Access.{number as aNumber, bytes as someBytes, reachBy};
 ghost use Rattle.locator.specs.Working.{barsNumber};
-ghost use Rattle.locator.specs.Locator.{heldIsBytes, isNumberOf, isBytesOf, hasShape, isLocator, heldDefault, heldFixed, reachAt, writeCheckAt, readAt, WrittenAt, WrittenAtOnce, numberAnswerSays, partOf};
+ghost use Rattle.locator.specs.Locator.{heldIsBytes, isNumberOf, isBytesOf, hasShape, isLocator, heldDefault, heldFixed, reachAt, writeCheckAt, readAt, seenAt, WrittenAt, WrittenAtOnce, numberAnswerSays, partOf};
 
 // What a field holds: a number, with its default and whether it is fixed to that; or bytes.
 pub enum Held {
@@ -199,6 +200,21 @@ impl Locator {
             NumberRead::Outside => NumberAnswer::Refused(self.access(AccessFault::NoSuchField)),
             NumberRead::Short => NumberAnswer::Refused(self.access(AccessFault::BufferUnderHeader)),
         }
+    }
+
+    // The number that is held there by one load, where it can be read and the buffer has 8 bytes. Most reads are such; where this one is not, `read_number` tells
+    // why, or gives it.
+    pub fn read_at_once(self, buf: &[u8]) -> NumberSeen
+        ensures { λ r. ⌜ r ≡ seenAt self (now (buf .entry)) ⌝ }
+    {
+        let header = self.header;
+        let start = self.start;
+        let width = self.width;
+        let held = self.held;
+        if header.over_max() | !held.is_number_of(width) {
+            return NumberSeen::None;
+        }
+        bits::read_at_once(buf, header, start, width)
     }
 
     // Whether bytes can be read there, or access 1 to 3.

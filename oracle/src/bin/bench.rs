@@ -1,12 +1,13 @@
-//! The port's time beside that of Rust, row by row; docs/SPEED.md tells what the rows are. Each is a ratio, port to Rust: the medians of many rounds in
-//! which both sides take turns, with the same inputs.
+//! The port's time beside that of Rust, row by row; docs/SPEED.md tells what the rows are. Each is a ratio: the medians
+//! of many rounds in which both sides take turns, with the same inputs.
 
 use std::hint::black_box;
 use std::time::Instant;
 
-use oracle::by_hand::Locator;
-use oracle::port;
 use oracle::sheet::{CondBlock, DefaultItem, End, FieldBlock, Form, LengthBlock, Range, Sheet};
+use oracle::{by_hand, port};
+use pktfmt_checked::ffi::{self, Locator, Refusal, HOLDS_NUMBER};
+use pktfmt_checked::Field;
 
 const ROUNDS: usize = 201;
 
@@ -16,45 +17,49 @@ fn main() {
     row("check, the eight blocks of the lister's example", check(&small, true, 200));
     row("check, the large sheet refused at its last block", check(&refused, false, 20));
     row("template of the large sheet", template(&large));
+    row("all fields of the large sheet, beside one check", fields(&large));
     rows("reads", reads);
-    rows("reads at the buffer's end", |number| reads(ending(number)));
+    rows("reads at the buffer's end", |at| reads(ending(at)));
     rows("writes", writes);
-    rows("writes at the buffer's end", |number| writes(ending(number)));
+    rows("writes at the buffer's end", |at| writes(ending(at)));
+    rows("reads by the crate, beside C", reads_by_the_crate);
+    rows("writes by the crate, beside C", writes_by_the_crate);
 }
 
-/// Nanoseconds of the port and of Rust.
+/// Nanoseconds of what is measured, which is the port, and of what it is measured by.
 type Times = (f64, f64);
 
-fn row(what: &str, (port, rust): Times) {
-    println!("{what:50} {:5.2}   (port {port:8.1} ns, Rust {rust:8.1} ns)", port / rust);
+fn row(what: &str, (port, beside): Times) {
+    println!("{what:50} {:5.2}   ({port:8.1} ns beside {beside:8.1} ns)", port / beside);
 }
 
 /// All numbers of 1 to 64 bits together, and the width that fares worst.
 fn rows(what: &str, times: impl Fn(Locator) -> Times) {
-    let sum = |times: Vec<Times>| times.iter().fold((0.0, 0.0), |(p, r), (port, rust)| (p + port, r + rust));
+    let sum = |times: Vec<Times>| times.iter().fold((0.0, 0.0), |(p, b), (port, beside)| (p + port, b + beside));
     let widths: Vec<Vec<Times>> = (1..=64).map(|width| numbers(width).map(&times).collect()).collect();
     let count = widths.iter().map(Vec::len).sum::<usize>() as f64;
     let of_width: Vec<Times> = widths.into_iter().map(sum).collect();
-    let worst = of_width.iter().map(|(port, rust)| port / rust).fold(0.0, f64::max);
-    let (port, rust) = sum(of_width);
-    row(&format!("{what}, 1 to 64 bits"), (port / count, rust / count));
+    let worst = of_width.iter().map(|(port, beside)| port / beside).fold(0.0, f64::max);
+    let (port, beside) = sum(of_width);
+    row(&format!("{what}, 1 to 64 bits"), (port / count, beside / count));
     println!("{:50} {worst:5.2}", format!("{what}, the worst width"));
 }
 
 /// Both sides in turns, `calls` of each a round; the medians of a call.
-fn compare(calls: usize, mut port: impl FnMut(), mut rust: impl FnMut()) -> Times {
-    compare_rounds(calls, || (0..calls).for_each(|_| port()), || (0..calls).for_each(|_| rust()))
+fn compare(calls: usize, mut port: impl FnMut(), mut beside: impl FnMut()) -> Times {
+    compare_rounds(calls, || (0..calls).for_each(|_| port()), || (0..calls).for_each(|_| beside()))
 }
 
 /// The same of rounds, which make so many calls each.
-fn compare_rounds(calls: usize, mut port: impl FnMut(), mut rust: impl FnMut()) -> Times {
+fn compare_rounds(calls: usize, mut port: impl FnMut(), mut beside: impl FnMut()) -> Times {
     let time = |round: &mut dyn FnMut()| {
         let began = Instant::now();
         round();
         began.elapsed().as_nanos() as f64 / calls as f64
     };
-    let (mut ports, mut rusts): (Vec<f64>, Vec<f64>) = (0..ROUNDS).map(|_| (time(&mut port), time(&mut rust))).unzip();
-    (median(&mut ports), median(&mut rusts))
+    let times = (0..ROUNDS).map(|_| (time(&mut port), time(&mut beside)));
+    let (mut ports, mut others): (Vec<f64>, Vec<f64>) = times.unzip();
+    (median(&mut ports), median(&mut others))
 }
 
 fn median(times: &mut [f64]) -> f64 {
@@ -65,24 +70,41 @@ fn median(times: &mut [f64]) -> f64 {
 // ---- sheets
 
 fn check(sheet: &[u8], accepted: bool, calls: usize) -> Times {
-    assert_eq!(pktfmt_checked::check(sheet).is_ok(), accepted);
+    assert_eq!(ffi::check(sheet).is_ok(), accepted);
     assert_eq!(original::definition(sheet).is_some(), accepted);
     compare(
         calls,
-        || _ = black_box(pktfmt_checked::check(black_box(sheet))),
+        || _ = black_box(ffi::check(black_box(sheet))),
         || _ = black_box(original::definition(black_box(sheet))),
     )
 }
 
 fn template(sheet: &[u8]) -> Times {
-    let bytes = pktfmt_checked::check(sheet).expect("the large sheet is accepted").bytes;
+    let bytes = ffi::check(sheet).expect("the large sheet is accepted").bytes as usize;
     let (mut port, mut rust) = (vec![0; bytes], vec![0; bytes]);
     let times = compare(
         20,
-        || pktfmt_checked::template(black_box(sheet), black_box(&mut port)).expect("there is room"),
+        || ffi::template(black_box(sheet), black_box(&mut port)).expect("there is room"),
         || rust.copy_from_slice(original::definition(black_box(sheet)).expect("accepted").header.header_template()),
     );
     assert_eq!(port, rust);
+    times
+}
+
+/// All fields in one call, beside one check by the port.
+fn fields(sheet: &[u8]) -> Times {
+    let (mut header, mut fields) = (ffi::Header::default(), [ffi::Field::default(); ffi::MAX_FIELDS]);
+    let mut refusal = Refusal::default();
+    let times = compare(
+        20,
+        || {
+            let (header, fields) = (black_box(&mut header), black_box(&mut fields));
+            black_box(port::fields(black_box(sheet), header, fields, black_box(&mut refusal)));
+        },
+        || _ = black_box(ffi::check(black_box(sheet))),
+    );
+    assert_eq!(ffi::check(sheet), Ok(header));
+    assert_eq!(fields.map(|field| field.at.index), std::array::from_fn(|index| index as u64));
     times
 }
 
@@ -98,8 +120,8 @@ fn within(start: u64, end: End) -> Range {
     Range { start: Some(start), end }
 }
 
-/// Eight groups of eight fields, 12 bytes each; two lengths; eight conditions of four ranges. The last range of all starts where it is told to: at 9 it meets
-/// another.
+/// Eight groups of eight fields, 12 bytes each; two lengths; eight conditions of four ranges. The last range of all
+/// starts where it is told to: at 9 it meets another.
 fn large(last: u64) -> Sheet {
     let group = |g: u32| {
         let named = |what: &str, bits, default| number(&format!("{what}_{g}"), bits, default);
@@ -248,52 +270,90 @@ mod original {
 const BUFFERS: [[u8; 64]; 100] = [[0x5a; 64]; 100];
 
 /// The numbers of a width from each bit of byte 20 on that touch at most 8 bytes.
-fn numbers(width: u64) -> impl Iterator<Item = Locator> {
-    (160..168)
-        .map(move |start| Locator { index: 0, header: 64, start, width, held: 0, default: 0 })
-        .filter(|number| number.start % 8 + number.width <= 64)
+fn numbers(bits: u64) -> impl Iterator<Item = Locator> {
+    let number = Locator { index: 0, header_bytes: 64, first_bit: 0, bits, held: HOLDS_NUMBER, default_number: 0 };
+    (160..168).filter(move |start| start % 8 + bits <= 64).map(move |first_bit| Locator { first_bit, ..number })
 }
 
 /// The same number in a header that ends with it.
-fn ending(number: Locator) -> Locator {
-    Locator { header: (number.start + number.width).div_ceil(8), ..number }
+fn ending(at: Locator) -> Locator {
+    Locator { header_bytes: (at.first_bit + at.bits).div_ceil(8), ..at }
 }
 
-fn reads(number: Locator) -> Times {
-    let (six, bytes) = (number.numbers(), ..number.header as usize);
-    let mut told = [0; 3];
+/// A field of the crate that stands there: one of a sheet with fields before it and after it.
+fn field_at(at: Locator) -> Field {
+    let (byte, end) = (at.first_bit / 8 * 8, at.first_bit + at.bits);
+    let after = end.div_ceil(8) * 8;
+    let parts = [("front", 0, byte), ("before", byte, at.first_bit), ("number", at.first_bit, end)];
+    let rest = [("after", end, after), ("rest", after, 8 * at.header_bytes)];
+    let fields = parts.into_iter().chain(rest).filter(|(_, first, end)| first < end);
+    let fields = fields.map(|(name, first, end)| number(name, (end - first) as u32, DefaultItem::Absent));
+    let sheet = Sheet { fields: fields.collect(), ..Sheet::default() };
+    let sheet = pktfmt_checked::Sheet::new(&sheet.to_bytes()).expect("it is accepted");
+    let field = sheet.field("number").expect("it has the number");
+    assert_eq!((field.first_bit(), field.bits()), (at.first_bit, at.bits));
+    field.clone()
+}
+
+/// By the C function, beside by hand. Neither is compiled into the loops: what they are told need not be hidden from the
+/// compiler for each call, which would store it each time.
+fn reads(at: Locator) -> Times {
+    let (at, bytes) = (black_box(&at), ..at.header_bytes as usize);
+    let (mut value, mut refusal) = (0, Refusal::default());
     compare_rounds(
         BUFFERS.len(),
-        || {
-            for buf in &BUFFERS {
-                black_box(port::read_number(black_box(&six), black_box(&buf[bytes]), black_box(&mut told)));
-            }
-        },
-        || {
-            for buf in &BUFFERS {
-                _ = black_box(black_box(&number).read_number(black_box(&buf[bytes])));
-            }
-        },
+        || BUFFERS.iter().for_each(|buf| _ = black_box(port::read_number(at, &buf[bytes], &mut value, &mut refusal))),
+        || BUFFERS.iter().for_each(|buf| _ = black_box(by_hand::read_number(at, &buf[bytes]))),
     )
 }
 
-fn writes(number: Locator) -> Times {
-    let (six, bytes) = (number.numbers(), ..number.header as usize);
-    let value = 0x0123_4567_89ab_cdef >> (64 - number.width);
-    let (mut left, mut right, mut told) = (BUFFERS, BUFFERS, [0; 3]);
+/// By the C function, beside by hand.
+fn writes(at: Locator) -> Times {
+    let (at, bytes) = (black_box(&at), ..at.header_bytes as usize);
+    let value = black_box(0x0123_4567_89ab_cdef >> (64 - at.bits));
+    let (mut left, mut right, mut refusal) = (BUFFERS, BUFFERS, Refusal::default());
     let times = compare_rounds(
         BUFFERS.len(),
         || {
             for buf in &mut left {
-                let buf = black_box(&mut buf[bytes]);
-                black_box(port::write_number(black_box(&six), buf, black_box(value), black_box(&mut told)));
+                black_box(port::write_number(at, &mut buf[bytes], value, &mut refusal));
             }
         },
+        || right.iter_mut().for_each(|buf| _ = black_box(by_hand::write_number(at, &mut buf[bytes], value))),
+    );
+    assert_eq!(left, right);
+    times
+}
+
+/// By the crate's field, beside the C function; what is measured is a number that was read.
+fn reads_by_the_crate(at: Locator) -> Times {
+    let (field, bytes) = (field_at(at), ..at.header_bytes as usize);
+    let (mut value, mut refusal) = (0, Refusal::default());
+    let (field, at) = (black_box(&field), black_box(&at));
+    let mut by_c = |buf: &[u8]| port::read_number(at, buf, &mut value, &mut refusal).then_some(value);
+    let number = |read: Option<u64>| _ = black_box(read.expect("it is accepted"));
+    compare_rounds(
+        BUFFERS.len(),
+        || BUFFERS.iter().for_each(|buf| number(field.read_number(&buf[bytes]).ok())),
+        || BUFFERS.iter().for_each(|buf| number(by_c(&buf[bytes]))),
+    )
+}
+
+/// By the crate's field, beside the C function.
+fn writes_by_the_crate(at: Locator) -> Times {
+    let (field, bytes) = (field_at(at), ..at.header_bytes as usize);
+    let (field, at) = (black_box(&field), black_box(&at));
+    let value = black_box(0x0123_4567_89ab_cdef >> (64 - at.bits));
+    let (mut left, mut right, mut refusal) = (BUFFERS, BUFFERS, Refusal::default());
+    let mut by_c = |buf: &mut [u8]| port::write_number(at, buf, value, &mut refusal);
+    let times = compare_rounds(
+        BUFFERS.len(),
         || {
-            for buf in &mut right {
-                _ = black_box(black_box(&number).write_number(black_box(&mut buf[bytes]), black_box(value)));
+            for buf in &mut left {
+                assert!(field.write_number(&mut buf[bytes], value).is_ok());
             }
         },
+        || right.iter_mut().for_each(|buf| assert!(by_c(&mut buf[bytes]))),
     );
     assert_eq!(left, right);
     times

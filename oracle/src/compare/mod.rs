@@ -1,13 +1,17 @@
 //! The port held against the original.
 
+mod conds;
 mod details;
+mod fields;
 mod found;
+mod lengths;
 mod tally;
 
 use std::sync::atomic::{AtomicU64, Ordering};
 use std::thread;
 
 use pktfmt_checked as port;
+use port::ffi;
 
 use crate::generate;
 use crate::listing;
@@ -15,6 +19,7 @@ use crate::original::{ask, Fault, Inputs, Step};
 use crate::random::Random;
 use crate::sheet::Sheet;
 
+use details::Accepted;
 use found::Found;
 pub use tally::{Difference, Tally};
 
@@ -61,27 +66,29 @@ pub struct Comparison {
 
 impl Comparison {
     pub fn new() -> Comparison {
-        Comparison { tally: Tally::default(), text: vec![0; port::LIST_ROOM] }
+        Comparison { tally: Tally::default(), text: vec![0; ffi::MAX_LISTING] }
     }
 
-    /// Compares one sheet that passes step 1. The random numbers are the values that lengths are asked of.
+    /// Compares one sheet that passes step 1. The random numbers are what lengths and fields are asked of.
     pub fn sheet(&mut self, index: u64, bytes: &[u8], random: &mut Random) {
         let sheet = Sheet::from_bytes(bytes);
-        let count = port::list_into(bytes, &mut self.text);
+        let count = ffi::list(bytes, &mut self.text);
         let text = String::from_utf8_lossy(&self.text[..count]).into_owned();
         let mut found = Found::default();
+        list_in_part(bytes, &text, random, &mut found);
         match ask(Inputs::of(&sheet)) {
             Ok(definition) => {
                 self.tally.accepted += 1;
                 found.same("listing", &listing::accepted(&definition, sheet.blocks()), &text);
-                details::compare(&definition, bytes, random, &mut found);
+                let accepted = Accepted { definition: &definition, stated: &sheet, bytes };
+                details::compare(&accepted, random, &mut found);
             }
             Err(Fault::Refused(refused)) => {
                 *self.tally.refused.entry((refused.group, refused.number)).or_default() += 1;
                 let words = listing::refused(&refused);
                 let same = if refused.place.is_some() { text == words } else { is_at_some_place(&text, &words) };
                 found.told(same, "refusal", || (words, text.clone()));
-                found.same("check", &text, &checked(bytes));
+                refuses(bytes, &text, &mut found);
             }
             Err(Fault::Panicked(Step::Cond)) if is_cond_4_of_the_last_number(&sheet, &text) => {
                 found.explained("cond 4 of a start 2^64 - 1 with an excluded end: the original panics");
@@ -90,7 +97,7 @@ impl Comparison {
                 found.told(false, "verdict", || (format!("panics at {step:?}"), text.clone()))
             }
         }
-        details::compare_any_form(random, &mut found);
+        lengths::compare_any(random, &mut found);
         self.tally.add(index, bytes, found);
     }
 }
@@ -101,12 +108,30 @@ impl Default for Comparison {
     }
 }
 
-/// The port's refusal as its listing has it, by the entry that only checks.
-fn checked(bytes: &[u8]) -> String {
-    match port::check(bytes) {
-        Ok(header) => format!("{header:?}"),
-        Err(refusal) => format!("{refusal}\n"),
-    }
+/// A listing in a buffer that may be too short for it: its front, and the length of all of it.
+fn list_in_part(bytes: &[u8], text: &str, random: &mut Random, found: &mut Found) {
+    let room = random.from_to(0, text.len() as u64 + 2) as usize;
+    let mut expected = text.as_bytes().to_vec();
+    expected.resize(room, b'?');
+    let mut out = vec![b'?'; room];
+    let count = ffi::list(bytes, &mut out);
+    found.same("listing in part", &(expected, text.len()), &(out, count));
+}
+
+/// A sheet that is refused is refused by every function in the same way, and by the crate with the line of the listing.
+fn refuses(bytes: &[u8], text: &str, found: &mut Found) {
+    let Err(refusal) = port::Sheet::new(bytes) else {
+        return found.told(false, "the crate's sheet", || (text.into(), "accepted".into()));
+    };
+    let (group, number, place) = (refusal.reason.group(), refusal.reason.number(), refusal.place);
+    found.same("the crate's refusal", text, &format!("refused {} {number} {place}\n", group.name())[..]);
+    let refusal = ffi::Refusal { group: group as u64, number, place };
+    found.same("check", &Err(refusal), &ffi::check(bytes));
+    found.same("fields", &Err(refusal), &ffi::fields(bytes));
+    found.same("lengths", &Err(refusal), &ffi::lengths(bytes));
+    found.same("conditions", &Err(refusal), &ffi::conditions(bytes));
+    found.same("field by index", &Err(refusal), &ffi::field_by_index(bytes, 0));
+    found.same("template", &Err(refusal), &ffi::template(bytes, &mut []));
 }
 
 /// Whether a text is a refusal's line, of which the original tells all but the place.

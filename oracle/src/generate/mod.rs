@@ -9,6 +9,8 @@ mod wild;
 use crate::random::Random;
 use crate::sheet::Sheet;
 
+pub use fields::{any_name as name, bytes};
+
 /// Sheet `index` of a seed: one that should be accepted, such a one with an item changed, or one of any items.
 pub fn sheet(seed: u64, index: u64) -> Sheet {
     let random = &mut Random::new(seed, index);

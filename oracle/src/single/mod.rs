@@ -113,7 +113,8 @@ fn position(end: BitPos) -> Given {
     Given { codes: [end.bit_pos(), 0], numbers: [end.byte_pos(), end.to_global_pos()] }
 }
 
-fn code_of(builtin: BuiltinTypes) -> u8 {
+/// The code of a type in a block.
+pub fn code_of(builtin: BuiltinTypes) -> u8 {
     match builtin {
         BuiltinTypes::U8 => 1,
         BuiltinTypes::U16 => 2,

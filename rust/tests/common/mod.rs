@@ -22,6 +22,7 @@ pub fn field(name: &str, bits: u32, items: &[(usize, &[u8])]) -> Vec<u8> {
 }
 
 pub const ARG_BOOL: (usize, &[u8]) = (71, &[6]);
+pub const ARG_CODE: (usize, &[u8]) = (71, &[7]);
 pub const GEN_FALSE: (usize, &[u8]) = (72, &[1]);
 pub const FIXED: (usize, &[u8]) = (74, &[1]);
 pub const SLICE: (usize, &[u8]) = (70, &[5]);
@@ -29,6 +30,16 @@ pub const SLICE: (usize, &[u8]) = (70, &[5]);
 /// A default that is a number, up to 255.
 pub fn number(value: &u8) -> [(usize, &[u8]); 2] {
     [(73, &[1]), (83, std::slice::from_ref(value))]
+}
+
+/// A condition: of each range the start, if it has one, and the end's kind and number.
+pub fn condition(name: &str, ranges: &[(Option<u64>, (u8, u64))]) -> Vec<u8> {
+    let parts = ranges.iter().flat_map(|(start, (end_kind, end))| {
+        let kinds = [start.is_some().into(), *end_kind];
+        [&kinds[..], &start.unwrap_or(0).to_be_bytes(), &end.to_be_bytes()].concat()
+    });
+    let parts: Vec<u8> = parts.collect();
+    block(b'C', name, &[(66, &[ranges.len() as u8]), (68, &parts)])
 }
 
 /// The sheet of eight blocks in the rules.
@@ -41,7 +52,7 @@ pub fn example() -> Vec<u8> {
         field("rest", 3, &number(&5)),
         block(b'L', "hl", &[(66, &[0, 3]), (75, &[4])]),
         block(b'L', "size", &[(66, &[2, 1])]),
-        block(b'C', "ver", &[(66, &[1]), (68, &[1, 1]), (77, &[4]), (85, &[4])]),
+        condition("ver", &[(Some(4), (1, 4))]),
     ]
     .concat()
 }

@@ -10,5 +10,5 @@ C_HEADER = Path(__file__).resolve().parents[3] / "include" / "pktfmt.h"
 
 def check_groups():
     listed = re.search(r"enum pktfmt_group \{(.*?)\}", C_HEADER.read_text(), re.DOTALL)[1]
-    found = re.findall(r"PKTFMT_(\w+) = (\d+)", listed)
+    found = re.findall(r"PKTFMT_GROUP_(\w+) = (\d+)", listed)
     assert found == [(group.name, str(group.value)) for group in Group]

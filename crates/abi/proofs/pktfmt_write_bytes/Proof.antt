@@ -1,20 +1,11 @@
--- `pktfmt_write_bytes` meets its contract: what the write at the locator answers is told. Assumes nothing.
+-- `pktfmt_write_bytes` meets its contract: what the write answers is told. Assumes nothing.
+use Rattle.abi.proofs.Fields.{sheet-told}
 use borrow.Author.Needs.{needs}
-use Rattle.abi.proofs.Told.{write-told}
 use Rattle.abi.proofs.pktfmt_write_bytes.Statement.{statement}
 use Rattle.abi.proofs.pktfmt_write_bytes.Tie as tie
 
 returns : tie.Need-returns
-returns c =
-    let wrote = c .before .before .before .before in
-    write-told (wrote .before .before .locator-from .ensures) (wrote .write-bytes .ensures) (c .tell-verdict .ensures)
+returns c = sheet-told (c .before .before .before .before .write-bytes .ensures) (c .tell-verdict .ensures)
 
 pub pktfmt-write-bytes-spec : {M : Type 1} → statement M
-pktfmt-write-bytes-spec =
-    tie.close
-    (tie.spec
-    (λ c κs. search needs)
-    (λ c κs. search needs)
-    (λ c κs. search needs)
-    (λ c. search needs)
-    returns)
+pktfmt-write-bytes-spec = tie.close (tie.spec (λ c κs. search needs) (λ c κs. search needs) (λ c. search needs) returns)

@@ -1,36 +1,20 @@
--- `pktfmt_write_number` meets its contract: a write at once is accepted, and where it was none, what the write at the locator answers is told. Assumes nothing.
-use mathlib.Core.Path.{refl}
+-- `pktfmt_write_number` meets its contract: the locator is given, and the write there told, or refused. Assumes nothing.
+use Rattle.abi.proofs.Fields.{write-there, write-refused}
 use borrow.Author.Needs.{needs}
-use Rattle.locator.proofs.Reached.{at-once-written, at-once-none}
-use Rattle.abi.specs.Told.{laid}
-use Rattle.abi.proofs.Told.{write-told}
 use Rattle.abi.proofs.pktfmt_write_number.Statement.{statement}
 use Rattle.abi.proofs.pktfmt_write_number.Tie as tie
 
 returns : tie.Need-returns
-unfolding laid
 returns c =
-    let once = c .before .before .before in
-    write-told (once .before .before .locator-from .ensures) (at-once-written (rw (c .if1 .taken) at (once .write-at-once .ensures))) (record { given = refl; told = refl })
+    let wrote = c .before .before in
+    let six = wrote .before .before .before .before in
+    let p = six .before .before in
+    write-there _ _ (p .before .before .locate .ensures) _ _ (p .p .given .1) (six .locator-numbers .ensures) (wrote .write-any .ensures .0) (wrote .write-any .ensures .1)
 
 returns-2 : tie.Need-returns-2
 returns-2 c =
-    let wrote = c .before .before .before .before in
-    let test = wrote .before .before .before in
-    let once = test .before .before .before in
-    let same = at-once-none (rw (test .if1 .left) at (once .write-at-once .ensures)) in
-    write-told (wrote .before .before .locator-from2 .ensures) (rw same at (wrote .write-number .ensures)) (c .tell-verdict .ensures)
+    let why = c .before .before .before in
+    write-refused _ _ (why .before .before .locate .ensures) _ _ (why .reason .given .1) (c .tell-refusal .ensures)
 
 pub pktfmt-write-number-spec : {M : Type 1} → statement M
-pktfmt-write-number-spec =
-    tie.close
-    (tie.spec
-    (λ c κs. search needs)
-    (λ c κs. search needs)
-    (λ c. search needs)
-    returns
-    (λ c κs. search needs)
-    (λ c κs. search needs)
-    (λ c κs. search needs)
-    (λ c. search needs)
-    returns-2)
+pktfmt-write-number-spec = tie.close (tie.spec (λ c κs. search needs) (λ c. search needs) (λ c κs. search needs) (λ c κs. search needs) (λ c. search needs) (λ c κs. search needs) (λ c. search needs) returns returns-2)

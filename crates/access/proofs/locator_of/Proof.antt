@@ -11,9 +11,9 @@ returns c =
 
 returns-2 : tie.Need-returns-2
 returns-2 c =
-    let f = c .before .before .before in
+    let f = c .before .before in
     let start = f .before .before .before .before in
-    rw (start .pre .1) (locator-at _ _ (start .pre .0) (f .before .before .unchecked-field .ensures) (f .f .given .1) (c .held-of .ensures))
+    locator-at _ _ (start .pre .0) (f .before .before .unchecked-field .ensures) (f .f .given .1) (start .pre .1) (c .locator-for .ensures)
 
 pub locator-of-spec : {M : Type 1} → statement M
 locator-of-spec = tie.close (tie.spec (λ c κs. search needs) (λ c. search needs) (λ c. search needs) (λ c κs. search needs) returns returns-2)

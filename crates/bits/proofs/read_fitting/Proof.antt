@@ -1,15 +1,11 @@
--- `read_fitting` meets its contract: the run, cut out of 8 bytes that hold it. Assumes nothing.
-use mathlib.Core.Path.{_∙_}
-use Prim.Native.Nat.{_+_, _-_}
+-- `read_fitting` meets its contract: the run, cut out of all of a short buffer, or out of 8 bytes of a longer one. Assumes nothing.
 use native.Mathlib.Omega.{arith}
 use borrow.Author.Needs.{needs}
-use Rattle.octets.proofs.Octets.{be-part}
 use Rattle.bits.specs.Positions.{globalOf}
 use Rattle.bits.proofs.Windows.{window-read}
 use Rattle.bits.proofs.read_fitting.Statement.{statement}
 use Rattle.bits.proofs.read_fitting.Tie as tie
 
--- all of a short buffer
 returns : tie.Need-returns
 returns c =
     let short = c .before in
@@ -17,31 +13,5 @@ returns c =
     let a = known .before .args in
     window-read (a .buf .now) (λ i. known .shared-slice-known .given i .fits) (globalOf (a .start)) (a .width .0) 0 (omega arith) (omega arith) (short .short-window .ensures) (omega arith) (c .cut .ensures)
 
--- 8 bytes of a longer one
-returns-2 : tie.Need-returns-2
-returns-2 c =
-    let loaded = c .before in
-    let at = loaded .before .before in
-    let f = at .window-at .result in
-    let known = at .before .before in
-    let a = known .before .args in
-    window-read (a .buf .now) (λ i. known .shared-slice-known .given i .fits) (globalOf (a .start)) (a .width .0) f (omega arith) (omega arith)
-    (loaded .be64 .ensures ∙ be-part (a .buf .now) f (f + 8 - f) 8 (omega arith)) (omega arith) (c .cut2 .ensures)
-
 pub read-fitting-spec : {M : Type 1} → statement M
-read-fitting-spec =
-    tie.close
-    (tie.spec
-    (λ c κs. search needs)
-    (λ c κs. search needs)
-    returns
-    (λ c κs. search needs)
-    (λ c. search needs)
-    (λ c. search needs)
-    (λ c. search needs)
-    (λ c. search needs)
-    (λ c κs. search needs)
-    (λ c. search needs)
-    (λ c. search needs)
-    (λ c κs. search needs)
-    returns-2)
+read-fitting-spec = tie.close (tie.spec (λ c κs. search needs) (λ c κs. search needs) returns (λ c κs. search needs) (λ c. c .read-window .ensures))

@@ -14,7 +14,7 @@ returns c =
     let reserved = spread .before .before in
     let named = reserved .before .before in
     let again = named .before .before in
-    let start = again .before .before .before .before in
+    let start = again .before .before .before in
     rw (
       c .and-then4 .ensures,
       c .before .and-then3 .ensures,
@@ -31,10 +31,11 @@ returns c =
       named .name .ensures,
       named .before .block .ensures,
       again .refuse .ensures,
-      again .before .before .new .ensures,
+      again .before .new .ensures,
       start .pre .0,
       start .pre .1 .0,
       start .pre .1 .1 .0,
+      start .pre .1 .1 .1 .0,
     )
 
 pub field-fault-spec : {M : Type 1} → statement M

@@ -12,6 +12,10 @@ use Rattle.answer.proofs.Chains.{first-none, first-more, passed}
 use Rattle.number.specs.Numbers.{maxBytes}
 use Rattle.sheet.specs.declared.Counts.{Counts}
 use Rattle.sheet.specs.Blocks.{fieldCount}
+use Rattle.blocks.specs.Layout.{nameOf, statedBits}
+use Rattle.field.specs.Sound.{widthOf}
+use Rattle.field_blocks.specs.OnBlock.{resolvedIn}
+use Rattle.field_blocks.specs.Step.{fieldAt}
 use Rattle.layout.proofs.Indexed.{position-none, position-more}
 use Rattle.header.specs.Names.{nameAt}
 use Rattle.header.specs.Starts.{startAt}
@@ -47,37 +51,46 @@ loop-holds c =
 
 -- the key is that of field i's name
 key-is : (c : tie.After-key Inv-loop μ-loop) → let k = loop-of c in c .key .result ≡ keyOf (nameAt (k .before .before .before .args .s .now) (k .loop .i))
-key-is c = cc
+key-is c = c .key .ensures ∙ ap keyOf (c .before .name .ensures ∙ ap nameOf (c .before .before .block .ensures))
+
+-- the width and the repr are field i's
+width-is : (c : tie.After-bits-in Inv-loop μ-loop) → let k = loop-of (c .before) in c .bits-in .result .0 ≡ widthOf (fieldAt (k .before .before .before .args .s .now) (k .loop .i))
+width-is c = c .bits-in .ensures .0 ∙ ap statedBits (c .before .before .before .block .ensures)
 
 field-fault-requires : tie.Need-field-fault-requires Inv-loop μ-loop
 field-fault-requires c κs =
-    let found = c .before in
-    let named = found .before .before in (
+    let held = c .before in
+    let wide = held .before in
+    let named = wide .before .before in (
       c .used-before .ensures ∙ rw (named .name .ensures, named .before .block .ensures),
-      (loop-of (found .before) .loop .inv .sum-is, (found .field-at .ensures .0, omega (arith, found .field-at .ensures .1))),
+      (
+        loop-of (wide .before) .loop .inv .sum-is,
+        (width-is wide, (held .repr-of .ensures ∙ ap (λ (b : List ℕ). (resolvedIn b) .repr) (named .before .block .ensures), omega (arith, wide .bits-in .ensures .1))),
+      ),
     )
 
 returns : tie.Need-returns Inv-loop μ-loop
 returns c =
     let said = c .before .before .before in
-    let k = loop-of (said .before .before .before) in
-    sym (new-stops _ (k .loop .i) (omega arith) (k .loop .inv .ok) (sym (said .field-fault .ensures) ∙ ap verdictSays (c .before .v .given .1)))
+    let key = said .before .before .before .before in
+    let k = loop-of key in
+    sym (new-stops _ (k .loop .i) (omega (arith, key .before .before .before .loop-test .taken, k .loop .inv .turns)) (k .loop .inv .ok) (sym (said .field-fault .ensures) ∙ ap verdictSays (c .before .v .given .1)))
 
 loop-again : tie.Need-loop-again Inv-loop μ-loop
 loop-again c =
     let told = c .before .before in
     let said = told .before .before in
-    let found = said .before .before in
-    let k = loop-of (found .before) in
+    let wide = said .before .before .before in
+    let k = loop-of (wide .before) in
     let i = k .loop .i in
     let ok = passed (told .enum-told .given .1) (said .field-fault .ensures) in
     record {
       turns = k .loop .inv .turns;
       left = omega arith;
-      sum-is = rw (k .loop .inv .sum-is, found .field-at .ensures .0) (sym (position-more _ i));
-      short = rw (k .loop .inv .sum-is, found .field-at .ensures .0) (short-field _ i ok);
+      sum-is = rw (k .loop .inv .sum-is, width-is wide) (sym (position-more _ i));
+      short = rw (k .loop .inv .sum-is, width-is wide) (short-field _ i ok);
       ok = first-more _ i (k .loop .inv .ok) ok;
-      marked = marked-more (k .loop .inv .marked) (key-is (found .before));
+      marked = marked-more (k .loop .inv .marked) (key-is (wide .before));
     }
 
 returns-2 : tie.Need-returns-2 Inv-loop μ-loop
@@ -105,15 +118,16 @@ new-spec =
     (λ c κs. search needs)
     (λ c. search needs)
     (λ c κs. search needs)
+    (λ c κs. search needs)
     (λ c. omega arith)
-    (λ c κs. unmarked _ (loop-of (c .before) .loop .inv .marked) (c .before .key .ensures))
+    (λ c κs. unmarked _ (loop-of (c .before .before) .loop .inv .marked) (c .before .before .key .ensures))
     field-fault-requires
     (λ c. search needs)
     returns
     (λ c. search needs)
     (λ c. omega arith)
     (λ c. omega arith)
-    (λ c. let said = c .before .before .before .before in omega (arith, loop-of (said .before .before .before) .before .block-counts .ok))
+    (λ c. let said = c .before .before .before .before in omega (arith, loop-of (said .before .before .before .before) .before .block-counts .ok))
     (λ c. omega arith)
     loop-again
     (λ c κs. search needs)
