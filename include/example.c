@@ -316,16 +316,21 @@ static bool read_sheet(const char *path, struct sheet *sheet)
         return false;
     }
     sheet->len = fread(sheet->bytes, 1, sizeof sheet->bytes, file);
-    const bool failed = ferror(file) != 0;
-    if (failed)
+    const bool read = ferror(file) == 0;
+    if (!read)
         perror(path);
-    return fclose(file) == 0 && !failed;
+    fclose(file); /* it was only read: nothing can be lost here */
+    return read;
 }
 
 int main(int argc, char **argv)
 {
     static struct sheet sheet;
     int status = EXIT_SUCCESS;
+    if (argc < 2) {
+        fprintf(stderr, "usage: example SHEET..\n");
+        return 2;
+    }
     if (pktfmt_version() != PKTFMT_VERSION) {
         fprintf(stderr, "example: the library is not the one of the header that this was compiled with\n");
         return EXIT_FAILURE;
