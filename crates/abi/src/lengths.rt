@@ -12,7 +12,7 @@ use slots::LengthField;
 use tree::Usable;
 
 // What a slot holds, and its two numbers.
-#[derive(Drop)]
+#[derive(Clone, Copy)]
 struct Form(u64, u64, u64);
 
 fn expr_form(e: UsableAlgExpr) -> Form

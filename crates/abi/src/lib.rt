@@ -1,5 +1,7 @@
 // The boundary: what C, and whoever calls as C does, links. include/pktfmt.h declares these functions; its structs are arrays of numbers here.
 // Answers go to arrays that are lent for them. A call that is refused leaves zeros there, and tells the refusal in three numbers.
+#![tactic(auto)]
+
 ghost use Rattle.std.specs.Prelude.{◌≡◌, true, false, length};
 ghost use Rattle.layout.specs.Access.{number as a_number, bytes as some_bytes, write};
 ghost use Rattle.locator.specs.Locator.{reach_at, write_check_at, read_at, apply_at};

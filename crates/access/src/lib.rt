@@ -1,5 +1,7 @@
 // Reading and writing the fields of a header by its sheet: the sheet's own refusal comes first, then access 1 to 5. Each entry works the field's
 // locator out of the sheet and goes there; a caller with many buffers keeps the locator.
+#![tactic(auto)]
+
 ghost use Rattle.std.specs.Prelude.{◌≡◌, true, false, length};
 ghost use Rattle.answer.specs.Paper.{verdict_says};
 ghost use Rattle.types.specs.Types.{is_slice};
@@ -17,7 +19,7 @@ use header::NewHeader;
 use locator::{Held, Locator, NumberAnswer};
 use number::Bytes;
 
-#[derive(Drop)]
+#[derive(Clone, Copy)]
 pub enum LocatorAnswer {
     Is(Locator),
     Refused(Refusal),

@@ -1,6 +1,8 @@
 // Runs of bits of a buffer, in the order of RFC 791, Appendix B: bit 0 is the most significant bit of byte 0.
 // A run has to lie in the first so many bytes of its buffer (`within`): those of a header, or all.
 // A number is read and written through 8 bytes that hold its run, by shifts; a run of whole bytes is copied.
+#![tactic(auto)]
+
 ghost use Rattle.std.specs.Prelude.{◌≡◌, ℕ, ◌+◌, ◌-◌, ◌*◌, ◌/◌, ◌%◌, ◌^◌, ◌≤◌, ◌<◌, min, length};
 ghost use Rattle.octets.specs.Octets.{AreBytes, be};
 ghost use Rattle.bits.specs.Bits.{value, spelled, touched as touched_by};
@@ -13,13 +15,13 @@ use answer::{PositionFault, Refusal};
 use number::{Bits, Bytes};
 
 // The position of a bit: its number, counted from the header's first bit on.
-#[derive(Drop)]
+#[derive(Clone, Copy)]
 pub struct BitPos {
     pub global: Bits,
 }
 
 // Where a run ends, or the refusal.
-#[derive(Drop)]
+#[derive(Clone, Copy)]
 pub enum EndPos {
     At(BitPos),
     Refused(Refusal),
@@ -27,7 +29,7 @@ pub enum EndPos {
 
 // Whether a run can be read and written as a number: not if it touches more than 8 bytes, nor if it ends past the bytes that it has to lie in, nor if the
 // buffer is too short for those.
-#[derive(Drop)]
+#[derive(Clone, Copy)]
 enum Fit {
     Fits,
     TooWide,
@@ -35,7 +37,7 @@ enum Fit {
     Short,
 }
 
-#[derive(Drop)]
+#[derive(Clone, Copy)]
 pub enum NumberRead {
     Number(u64),
     TooWide,
@@ -44,14 +46,14 @@ pub enum NumberRead {
 }
 
 // A number that was read at once, or none.
-#[derive(Drop)]
+#[derive(Clone, Copy)]
 pub enum NumberSeen {
     Is(u64),
     None,
 }
 
 // A number that has more bits than the run is too large for it.
-#[derive(Drop)]
+#[derive(Clone, Copy)]
 pub enum NumberWrite {
     Done,
     TooWide,
@@ -60,7 +62,7 @@ pub enum NumberWrite {
     TooLarge,
 }
 
-#[derive(Drop)]
+#[derive(Clone, Copy)]
 pub enum BytesWrite {
     Done,
     Outside,

@@ -1,37 +1,39 @@
 // Ranges of numbers, as the Rust's `CondBounds`: an end cut at a largest number, emptiness, intersection; and the first and the last number of a range.
+#![tactic(auto)]
+
 ghost use Rattle.std.specs.Prelude.{◌≡◌, cond, ◌+◌};
 ghost use Rattle.bounds.specs.Bounds.{from_start, to_end, last_of, clipped_end, clipped, is_excluded, empty_from, is_empty, starts_later, number_up_to, ends_earlier, intersection, first_last_from, first_last, emptiness_says, intersection_says, first_last_says};
 
 use answer::{BoundFault, Refusal};
 
 // Where a range starts or ends: nowhere, with a number, or just past a start and just before an end.
-#[derive(Drop)]
+#[derive(Clone, Copy)]
 pub enum Bound {
     Unbounded,
     Included(u64),
     Excluded(u64),
 }
 
-#[derive(Drop)]
+#[derive(Clone, Copy)]
 pub struct CondBounds {
     pub start: Bound,
     pub end: Bound,
 }
 
-#[derive(Drop)]
+#[derive(Clone, Copy)]
 pub enum Emptiness {
     Is(bool),
     Refused(Refusal),
 }
 
-#[derive(Drop)]
+#[derive(Clone, Copy)]
 pub enum Intersection {
     Is(CondBounds),
     Refused(Refusal),
 }
 
 // The first and the last number of a range, if it holds any.
-#[derive(Drop)]
+#[derive(Clone, Copy)]
 pub enum FirstLast {
     Are(u64, u64),
     None,

@@ -1,4 +1,6 @@
 // Conditions: the ranges of a C block, and step 5, as the Rust's `Cond::from_cond_list` has it. Entries keep the order of the sheet.
+#![tactic(auto)]
+
 ghost use Rattle.std.specs.Prelude.{◌≡◌, Bool, ◌&&◌};
 ghost use Rattle.answer.specs.declared.Group.{Group};
 ghost use Rattle.answer.specs.Paper.{gives, cond_number, verdict_says, refuse as refused_if};

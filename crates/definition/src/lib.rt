@@ -1,4 +1,6 @@
 // Definitions: the verdict on any bytes as a sheet, steps 1 to 5 in order, and what an accepted sheet says, by index.
+#![tactic(auto)]
+
 ghost use Rattle.std.specs.Prelude.{◌≡◌};
 ghost use Rattle.answer.specs.Paper.{gives, verdict_says, ◌and_then◌};
 ghost use Rattle.sheet.specs.Sheet.{sheet_check};
@@ -20,14 +22,14 @@ use header::{FieldIndex, FieldStart, Header, NewHeader};
 use slots::LengthField;
 
 // A field's record, and where it starts, if there is such a field.
-#[derive(Drop)]
+#[derive(Clone, Copy)]
 pub enum FieldWithStart {
     Is(Field, BitPos),
     None,
 }
 
 // What a length slot holds, the block that gives it (0 stands for none), and the length of its field's largest value.
-#[derive(Drop)]
+#[derive(Clone, Copy)]
 pub struct LengthSlot {
     pub held: LengthField,
     pub at: usize,
@@ -35,21 +37,21 @@ pub struct LengthSlot {
 }
 
 // The block of an entry, if there is such an entry.
-#[derive(Drop)]
+#[derive(Clone, Copy)]
 enum EntryBlock {
     At(usize),
     None,
 }
 
 // An entry of the conditions: its block, the field that it names, and how many ranges it has.
-#[derive(Drop)]
+#[derive(Clone, Copy)]
 pub struct CondEntry {
     pub block: usize,
     pub field: usize,
     pub ranges: u8,
 }
 
-#[derive(Drop)]
+#[derive(Clone, Copy)]
 pub enum EntryAt {
     At(CondEntry),
     None,

@@ -1,11 +1,13 @@
 // Length expressions, as the Rust's `UsableAlgExpr`: five forms over the value of one field, worked forward to a length and back.
 // The name of the field stays in the block that has the expression.
+#![tactic(auto)]
+
 ghost use Rattle.std.specs.Prelude.{◌≡◌};
 ghost use Rattle.expr.specs.Forms.{◌then◌, plus as plus_of, times as times_of, less as less_of, over as over_of, forward as forward_of, Back, maybe_number_says, length_says};
 
 use number::Bytes;
 
-#[derive(Drop)]
+#[derive(Clone, Copy)]
 pub enum UsableAlgExpr {
     // x
     IdentOnly,
@@ -20,14 +22,14 @@ pub enum UsableAlgExpr {
 }
 
 // A number of 64 bits, where there is one.
-#[derive(Drop)]
+#[derive(Clone, Copy)]
 pub enum MaybeNumber {
     Is(u64),
     None,
 }
 
 // A length in bytes, where there is one.
-#[derive(Drop)]
+#[derive(Clone, Copy)]
 pub enum Length {
     Is(Bytes),
     None,

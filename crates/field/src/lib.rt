@@ -1,5 +1,7 @@
 // Fields: what a table says of one field, checked as the Rust's `Field::new` checks it, and the record of a field that passed.
 // A default's bytes stay where they are, in the block of the field: the record holds their span.
+#![tactic(auto)]
+
 ghost use Rattle.std.specs.Prelude.{◌≡◌};
 ghost use Rattle.answer.specs.declared.Group.{Group};
 ghost use Rattle.answer.specs.Paper.{field_number, verdict_says, refuse as refused_if};
@@ -12,14 +14,14 @@ use number::{Bits, Bytes, MaxValue};
 use types::{Arg, BuiltinTypes};
 
 // A stretch of bytes in the block of a field.
-#[derive(Drop)]
+#[derive(Clone, Copy)]
 pub struct Span {
     pub at: usize,
     pub len: usize,
 }
 
 // A default: a number, or bytes, those of the span and then zeros. (A bool can be given, but no field is accepted with one.)
-#[derive(Drop)]
+#[derive(Clone, Copy)]
 pub enum DefaultVal {
     Num(u64),
     Bool(bool),
@@ -27,33 +29,33 @@ pub enum DefaultVal {
 }
 
 // The items of a field that may be absent.
-#[derive(Drop)]
+#[derive(Clone, Copy)]
 pub enum DefinedRepr {
     Absent,
     Given(BuiltinTypes),
 }
 
-#[derive(Drop)]
+#[derive(Clone, Copy)]
 pub enum DefinedArg {
     Absent,
     Given(Arg),
 }
 
 // A default, and whether it is fixed.
-#[derive(Drop)]
+#[derive(Clone, Copy)]
 pub enum DefinedDefault {
     Absent,
     Given(DefaultVal, bool),
 }
 
-#[derive(Drop)]
+#[derive(Clone, Copy)]
 pub enum DefinedGen {
     Absent,
     Given(bool),
 }
 
 // A field with every item resolved.
-#[derive(Drop)]
+#[derive(Clone, Copy)]
 pub struct Field {
     pub width: Bits,
     // how it is held
@@ -66,7 +68,7 @@ pub struct Field {
     pub fixed: bool,
 }
 
-#[derive(Drop)]
+#[derive(Clone, Copy)]
 pub enum NewField {
     Is(Field),
     Refused(Refusal),

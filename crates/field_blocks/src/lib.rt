@@ -1,4 +1,6 @@
 // The fields of a sheet: the items of an F block, byte by byte, and step 2, field 1 to 7 of all F blocks in order.
+#![tactic(auto)]
+
 ghost use Rattle.std.specs.Prelude.{◌≡◌, ◌^◌, ◌<◌};
 ghost use Rattle.answer.specs.Paper.{verdict_says};
 ghost use Rattle.field.specs.Fields.{new_field_says};

@@ -1,5 +1,7 @@
 // Headers: the names of a sheet's fields, where each field starts, and step 3, as the Rust's `Header::new` has it.
 // Nothing is kept beside the sheet but, within step 3, which keys of names were met: a name is looked up, and a start summed, by a walk over the F blocks.
+#![tactic(auto)]
+
 ghost use Rattle.std.specs.Prelude.{◌≡◌, false, ◌+◌, ◌-◌, ◌≤◌, ◌<◌, ◌^◌, length};
 ghost use Rattle.answer.specs.declared.Group.{Group};
 ghost use Rattle.answer.specs.Paper.{header_number, verdict_says, refuse as refused_if};
@@ -22,27 +24,27 @@ use octets::{be16, byte_at, same_bytes};
 use types::BuiltinTypes;
 
 // The field that a name means, if there is one.
-#[derive(Drop)]
+#[derive(Clone, Copy)]
 pub enum FieldIndex {
     At(usize),
     None,
 }
 
 // Where a field starts, if there is such a field.
-#[derive(Drop)]
+#[derive(Clone, Copy)]
 pub enum FieldStart {
     At(BitPos),
     None,
 }
 
 // How many fields a header has, and how long it is.
-#[derive(Drop)]
+#[derive(Clone, Copy)]
 pub struct Header {
     pub fields: usize,
     pub len: Bytes,
 }
 
-#[derive(Drop)]
+#[derive(Clone, Copy)]
 pub enum NewHeader {
     Is(Header),
     Refused(Refusal),

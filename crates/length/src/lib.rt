@@ -1,4 +1,6 @@
 // Lengths: step 4, as the Rust's `Length::from_packet_length` has it, and the two lengths of a slot, of the largest value and of the default.
+#![tactic(auto)]
+
 ghost use Rattle.std.specs.Prelude.{◌≡◌, not};
 ghost use Rattle.answer.specs.declared.Group.{Group};
 ghost use Rattle.answer.specs.Paper.{length_number, verdict_says, refuse as refused_if, first};
@@ -21,14 +23,14 @@ use slots::LengthField;
 use types::{Arg, BuiltinTypes};
 
 // The field that a name means, if there is one.
-#[derive(Drop)]
+#[derive(Clone, Copy)]
 enum Named {
     Is(Field),
     None,
 }
 
 // The expression of a slot and its field, if there are both.
-#[derive(Drop)]
+#[derive(Clone, Copy)]
 enum Used {
     By(UsableAlgExpr, Field),
     None,

@@ -1,4 +1,6 @@
 // The lines that the lister prints, each written into a lent buffer from what it tells.
+#![tactic(auto)]
+
 ghost use Rattle.std.specs.Prelude.{◌≡◌, cond, ◌∷◌};
 ghost use Rattle.std.proofs.Math.Seq.{slice};
 ghost use Rattle.text.specs.Text.{spaced};
@@ -22,7 +24,7 @@ use text::{Cursor, put_byte, put_bytes, put_hex, put_number, put_word};
 use types::BuiltinTypes;
 
 // A short word: so many of the bytes.
-#[derive(Drop)]
+#[derive(Clone, Copy)]
 struct Word([u8; 11], usize);
 
 // ---- words

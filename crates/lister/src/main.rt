@@ -1,5 +1,7 @@
 // The lister: standard input is one sheet; its listing, or the one line of its refusal, goes to standard output. Where it cannot be read or written, a line on
 // standard error says so.
+#![tactic(auto)]
+
 use libc::{STDIN_FILENO, STDOUT_FILENO};
 use streams::Input;
 

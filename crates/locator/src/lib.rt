@@ -1,5 +1,7 @@
 // Locators: where a field stands in a header, worked out once, and reading and writing there, in any number of buffers.
 // Nothing relies on a locator having come from a sheet: one that no field can have is refused.
+#![tactic(auto)]
+
 ghost use Rattle.std.specs.Prelude.{◌≡◌, true, false, not, ◌&&◌, ltb, eqb, length, ◌*◌};
 ghost use Rattle.answer.specs.declared.Group.{Group};
 ghost use Rattle.answer.specs.Paper.{access_number, refusal_says, verdict_says, refuse as refused_if};
@@ -13,13 +15,13 @@ use bits::{BitPos, BytesWrite, NumberRead, NumberSeen, NumberWrite};
 use number::{Bits, Bytes};
 
 // What a field holds: a number, with its default and whether it is fixed to that; or bytes.
-#[derive(Drop)]
+#[derive(Clone, Copy)]
 pub enum Held {
     Number(u64, bool),
     Bytes,
 }
 
-#[derive(Drop)]
+#[derive(Clone, Copy)]
 pub struct Locator {
     // of the field in its sheet
     pub index: usize,
@@ -30,7 +32,7 @@ pub struct Locator {
     pub held: Held,
 }
 
-#[derive(Drop)]
+#[derive(Clone, Copy)]
 pub enum NumberAnswer {
     Is(u64),
     Refused(Refusal),

@@ -1,6 +1,8 @@
 // What the programs that read stored files share: the tally of their answers, numbers of two bytes, and packed texts. A packed text is runs of bytes, each after
 // a gap. A run is 2 bytes for the gap, big-endian, which is how many zeros stand before it; 1 byte for its count; and as many bytes. A text is unpacked over
 // zeros, whole or in pieces.
+#![tactic(auto)]
+
 mod tally;
 
 ghost use Rattle.std.specs.Prelude.{◌≡◌, ◌^◌, ◌<◌, ◌≤◌};

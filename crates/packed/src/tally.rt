@@ -6,7 +6,7 @@ ghost use Rattle.packed.specs.Counted.{counted, counts_text, first_text, tally_t
 use std::num::wrapping_add_u64;
 use text::{Cursor, put_bytes, put_decimal};
 
-#[derive(Drop)]
+#[derive(Clone, Copy)]
 pub struct Tally {
     right: u64,
     wrong: u64,

@@ -1,4 +1,6 @@
 // Sheets: 0 to 99 blocks, F for fields, L for lengths, C for conditions. What a sheet holds, and step 1: which bytes are a sheet.
+#![tactic(auto)]
+
 ghost use Rattle.std.specs.Prelude.{◌≡◌, cond, ◌≤◌, ◌<◌, ◌^◌};
 ghost use Rattle.answer.specs.declared.Group.{Group};
 ghost use Rattle.answer.specs.Paper.{sheet_number, verdict_says, refuse as refused_if};
@@ -11,7 +13,7 @@ use blocks::check::check_holds;
 use blocks::{kind, layout_holds, stated_slot};
 
 // How many blocks there are of each kind.
-#[derive(Drop)]
+#[derive(Clone, Copy)]
 pub struct Counts {
     pub fields: usize,
     pub lengths: usize,
@@ -19,7 +21,7 @@ pub struct Counts {
 }
 
 // The block that gives a length slot, if one does.
-#[derive(Drop)]
+#[derive(Clone, Copy)]
 pub enum SlotBlock {
     At(usize),
     None,

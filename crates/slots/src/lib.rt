@@ -1,4 +1,6 @@
 // Length slots: what the L blocks of a sheet hold, each one of the five forms, a tree that is one, or neither.
+#![tactic(auto)]
+
 ghost use Rattle.std.specs.Prelude.{◌≡◌, ◌&&◌};
 ghost use Rattle.tree.specs.Tree.{usable_says};
 ghost use Rattle.slots.specs.Slots.{root_in, tree_in, expr_in, held, block_of_slot, length_field, is_tree, no_form};
@@ -9,7 +11,7 @@ use sheet::SlotBlock;
 use tree::Usable;
 
 // What a slot holds: no block gives it; it is given without an expression; or with one.
-#[derive(Drop)]
+#[derive(Clone, Copy)]
 pub enum LengthField {
     Absent,
     Undefined,
@@ -17,7 +19,7 @@ pub enum LengthField {
 }
 
 // The same, and the block that gives it; 0 stands for none.
-#[derive(Drop)]
+#[derive(Clone, Copy)]
 pub struct Slot {
     pub held: LengthField,
     pub at: usize,

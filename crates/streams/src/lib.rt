@@ -1,16 +1,18 @@
 // Reading an input, a buffer at a time or to its end. A read that fails is no end of the input. A call that a signal interrupts before it moves a byte counts as one that failed.
+#![tactic(auto)]
+
 ghost use Rattle.std.specs.Prelude.{◌≡◌, length};
 ghost use Rattle.streams.specs.Streams.{heard_of, InFront};
 
 // What reading came to: how many bytes stand at the front of the buffer, or that a read failed.
-#[derive(Drop)]
+#[derive(Clone, Copy)]
 pub enum Input {
     Bytes(usize),
     Failed,
 }
 
 // What one call of read came to.
-#[derive(Drop)]
+#[derive(Clone, Copy)]
 enum Heard {
     Bytes(usize),
     End,

@@ -1,4 +1,6 @@
 // The template: the bytes that a header starts with, each field with its default. It goes into a lent buffer, from its first byte on.
+#![tactic(auto)]
+
 ghost use Rattle.std.specs.Prelude.{◌≡◌, ◌⊎◌, ◌+◌, ◌*◌, ◌≤◌, length};
 ghost use Rattle.std.proofs.Math.Seq.{slice};
 ghost use Rattle.bits.specs.Bits.{spelled};

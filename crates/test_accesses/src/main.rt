@@ -1,6 +1,8 @@
 // Carries out stored reads and writes of fields. The file `accesses` is made by tools/stored_sheets, from the rules and not from this program; its format
 // is told there. Each operation is carried out twice, by the sheet and at the field's locator. Prints how many gave the answer, and left the buffer, that the
 // file has for them, and how many did not.
+#![tactic(auto)]
+
 ghost use Rattle.std.specs.Prelude.{◌*◌, ◌≤◌};
 
 use access::LocatorAnswer;
@@ -132,7 +134,7 @@ fn replay_one(s: &[u8], op: &[u8], bytes: &[u8], differ: &[u8]) -> bool {
 // ---- the records
 
 // How the operations turned out so far, and how many bytes the last ones are.
-#[derive(Drop)]
+#[derive(Clone, Copy)]
 struct Replayed {
     tally: Tally,
     size: usize,

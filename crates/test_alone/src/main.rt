@@ -1,5 +1,7 @@
 // Asks single questions, outside any sheet, on both sides of a line: types by name, a field of five items. The answers were worked out by hand.
 // Prints which parts were right and which were not.
+#![tactic(auto)]
+
 use answer::{Group, Refusal};
 use field::{
     DefaultVal, DefinedArg, DefinedDefault, DefinedGen, DefinedRepr, Field, NewField, Span,

@@ -1,5 +1,7 @@
 // Asks single questions on both sides of a line: lengths forward and back, trees, ranges. The answers were worked out by hand.
 // Prints which parts were right and which were not.
+#![tactic(auto)]
+
 ghost use Rattle.std.specs.Prelude.{◌≤◌};
 
 use answer::{Group, Refusal};

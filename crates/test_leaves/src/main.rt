@@ -1,5 +1,7 @@
 // Runs the leaves on vectors worked out by hand or taken from the RFCs, on both sides of a line. Prints which parts were right and which were not.
 // (Runs of bits have a program of their own.)
+#![tactic(auto)]
+
 use answer::{Group, Refusal, SheetFault};
 use bits::{BitPos, BytesWrite, EndPos};
 use libc::STDOUT_FILENO;

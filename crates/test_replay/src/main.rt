@@ -1,5 +1,7 @@
 // Replays the original's answers. The files `answers` and `alone` are made by oracle/ from runs of the original Rust; oracle/README.md tells their formats, and
 // where the answer here is another on purpose. Prints, of each file, how many answers are the same and how many are not.
+#![tactic(auto)]
+
 use bits::{BitPos, EndPos};
 use bounds::{Bound, CondBounds, Emptiness, Intersection};
 use expr::{Length, MaybeNumber, UsableAlgExpr};
@@ -44,7 +46,7 @@ fn is_right(packed_sheet: &[u8], len: usize, expected: &[u8]) -> bool {
 // ---- functions that stand alone
 
 // What is answered to a question: codes and numbers, zeros where it is none or a refusal.
-#[derive(Drop)]
+#[derive(Clone, Copy)]
 struct Answer {
     given: bool,
     r1: u8,

@@ -1,6 +1,8 @@
 // Every run of 1 to 64 bits from bits 0 to 15 of buffers of several lengths: written with several numbers over several fillings, read back, and held bit by
 // bit to what the buffer, and what lies behind it, should then be. The loop over bits is the whole of what is known here of bit order. Prints how many were
 // right.
+#![tactic(auto)]
+
 ghost use Rattle.std.specs.Prelude.{◌≤◌};
 
 use bits::{BitPos, NumberRead, NumberWrite};
@@ -55,7 +57,7 @@ fn read_code(b: &[u8], h: u64, s: u64, w: u64, v: u64) -> u64 {
 }
 
 // What is lent of the 16 bytes of a buffer: the first n; and the run has to lie in the first h of them.
-#[derive(Drop)]
+#[derive(Clone, Copy)]
 struct Lent {
     n: usize,
     h: u64,

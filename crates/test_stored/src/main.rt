@@ -1,5 +1,7 @@
 // Runs the steps over stored sheets. The file `sheets` is made by tools/stored_sheets, from the rules and not from this program; its record format
 // is told there. Prints how many sheets gave the answer, and what a sheet that passed holds, that the file has for them, and how many did not.
+#![tactic(auto)]
+
 use answer::{Group, Verdict};
 use blocks::nodes::Node;
 use bounds::FirstLast;
@@ -17,7 +19,7 @@ use text::Cursor;
 // ---- what an accepted sheet holds, compared with the facts of its record as they stand there, byte after byte
 
 // How far the facts are read, and whether they were right so far.
-#[derive(Drop)]
+#[derive(Clone, Copy)]
 struct Reading {
     at: usize,
     ok: bool,
@@ -170,7 +172,7 @@ fn table(r: Reading, facts: &[u8], b: &[u8]) -> Reading {
 
 // What the facts have for each block: first all names, then all fields, all trees, all starts, and for each name the field that it means; further on,
 // the ranges of all conditions.
-#[derive(Drop)]
+#[derive(Clone, Copy)]
 enum Section {
     Names,
     Fields,

@@ -1,11 +1,13 @@
 // Text in a lent buffer: each function writes a text from a cursor on and answers the cursor after it. Where the buffer ends first, it holds
 // the beginning of the text, and the cursor is full; nothing is written there any more. So a writer never fails, and its calls need no tests between them.
+#![tactic(auto)]
+
 ghost use Rattle.std.specs.Prelude.{◌≡◌, [], ◌∷◌, ◌≤◌, ◌<◌, length, drop};
 ghost use Rattle.text.specs.Text.{decimal, hex_digit, hex};
 ghost use Rattle.text.specs.Output.{emit, FilledFront};
 
 // Where the next byte goes, or past the buffer's end.
-#[derive(Drop)]
+#[derive(Clone, Copy)]
 pub enum Cursor {
     At(usize),
     Full,

@@ -1,4 +1,6 @@
 // Trees of nodes, and which of them are one of the five forms, as the Rust's `try_take_usable_alg_expr`.
+#![tactic(auto)]
+
 ghost use Rattle.std.specs.Prelude.{◌≡◌};
 ghost use Rattle.expr.specs.Forms.{form_of, maybe_number_says};
 ghost use Rattle.answer.specs.Walk.{◌or_else◌};
@@ -8,7 +10,7 @@ use blocks::nodes::Node;
 use expr::{MaybeNumber, UsableAlgExpr};
 
 // The expression that a tree is, if it is one.
-#[derive(Drop)]
+#[derive(Clone, Copy)]
 pub enum Usable {
     Expr(UsableAlgExpr),
     None,

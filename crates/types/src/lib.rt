@@ -1,4 +1,6 @@
 // The built-in types by which a field is held and handed over, their codes on the sheet, and their names.
+#![tactic(auto)]
+
 ghost use Rattle.std.specs.Prelude.{◌≡◌};
 ghost use Rattle.octets.specs.Octets.{same};
 ghost use Rattle.types.specs.Types.{type_code, type_of_code, arg_code, same_type, is_slice, type_name, type_name_of, type_from, type_named_says};
@@ -6,7 +8,7 @@ ghost use Rattle.types.specs.Types.{type_code, type_of_code, arg_code, same_type
 use answer::{Refusal, TypeFault};
 use octets::{part, same_bytes};
 
-#[derive(Drop)]
+#[derive(Clone, Copy)]
 pub enum BuiltinTypes {
     U8,
     U16,
@@ -17,21 +19,21 @@ pub enum BuiltinTypes {
 }
 
 // How a field is handed over: as a type, or by code of the reader's own.
-#[derive(Drop)]
+#[derive(Clone, Copy)]
 pub enum Arg {
     BuiltinTypes(BuiltinTypes),
     Code,
 }
 
 // A type's name: the first `len` bytes.
-#[derive(Drop)]
+#[derive(Clone, Copy)]
 pub struct TypeName {
     pub bytes: [u8; 5],
     pub len: usize,
 }
 
 // The type of a name, or type 1.
-#[derive(Drop)]
+#[derive(Clone, Copy)]
 pub enum TypeNamed {
     Is(BuiltinTypes),
     Refused(Refusal),

@@ -1,0 +1,12 @@
+-- `same_bytes` meets its contract. The loop's invariant: the spans are the same exactly where what is left of them is. Assumes nothing.
+use mathlib.Core.Path.{◌≡◌}
+use Prim.Native.Nat.{◌-◌}
+use lib.ListN.{length, drop}
+use Rattle.octets.specs.Octets.{same}
+use Rattle.octets.proofs.same_bytes.Given as goal
+
+abbrev pub invariant-loop-i : goal.invariant-loop-i
+invariant-loop-i l = same l.s l.t ≡ same (drop l.i l.s) (drop l.i l.t)
+
+abbrev pub decreases-loop-i : goal.decreases-loop-i
+decreases-loop-i l = length l.s - l.i
