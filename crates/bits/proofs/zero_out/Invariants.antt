@@ -1,0 +1,11 @@
+-- `zero_out` meets its contract. The loop's invariant: the first i bytes are zero. Assumes nothing.
+use mathlib.Core.Path.{◌≡◌}
+use Prim.Native.Nat.{◌≤◌, ◌-◌, ◌*◌}
+use Rattle.bits.specs.Writes.{put}
+use Rattle.bits.proofs.zero_out.Given as goal
+
+abbrev pub invariant-loop-i : goal.invariant-loop-i
+invariant-loop-i l = (l.i ≤ l.count) × (l.buf ≡ put l.initial.buf (8 * l.from) (8 * l.i) 0)
+
+abbrev pub decreases-loop-i : goal.decreases-loop-i
+decreases-loop-i l = l.count - l.i

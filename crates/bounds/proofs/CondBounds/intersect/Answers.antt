@@ -1,0 +1,22 @@
+-- `CondBounds::intersect` meets its contract: no start is excluded, and the later start and the earlier end are chosen. Assumes nothing.
+use Rattle.bounds.specs.Bounds.{intersection}
+use Rattle.bounds.proofs.CondBounds.intersect.Goals as goal
+
+pub returns-then-is_excluded : goal.returns-then-is_excluded
+unfolding intersection
+returns-then-is_excluded c = rw (← c.is_excluded.ensures, ← c.is_excluded-2.ensures, c.if-is_excluded.true)
+
+pub returns : goal.returns
+unfolding intersection
+returns c =
+    let start = c in
+    let tests = start in
+    rw (
+      c.choose-2.ensures,
+      c.ends_earlier.ensures,
+      start.choose.ensures,
+      start.starts_later.ensures,
+      ← tests.is_excluded.ensures,
+      ← tests.is_excluded-2.ensures,
+      start.if-is_excluded.false,
+    )

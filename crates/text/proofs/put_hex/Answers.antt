@@ -1,0 +1,28 @@
+-- Answers to the goals of `put_hex`.
+use mathlib.Core.Path.{sym, ap, ◌∙◌}
+use Prim.Native.Nat.{◌+◌}
+use native.Mathlib.Omega.{arith}
+use lib.ListN.{drop}
+use Rattle.text.specs.Text.{hex}
+use Rattle.text.specs.Output.{emit}
+use Rattle.text.proofs.Emit.{hex-none, hex-go}
+use Rattle.text.proofs.put_hex.Goals as goal
+
+pub hex_digit-requires : goal.hex_digit-requires
+hex_digit-requires c = omega (arith, (c.shared_slice_known-in-loop-i-1.given c.loop-i.i).fits)
+
+pub hex_digit-requires-in-loop-i : goal.hex_digit-requires-in-loop-i
+hex_digit-requires-in-loop-i c = omega (arith, (c.shared_slice_known-in-loop-i-1.given c.loop-i.i).fits)
+
+pub loop-i-preserved : goal.loop-i-preserved
+loop-i-preserved c =
+    let call = c in
+    let low = call in
+    let at-loop = low in
+    let s = at-loop.args.s.now in
+    let i = at-loop.loop-i.i in
+    let digits = rw (low.hex_digit.ensures, low.hex_digit-in-loop-i.ensures) at call.put_bytes-p.ensures in
+    ap (emit (hex (drop (i + 1) s))) digits ∙ sym (hex-go s i (omega arith) (at-loop.loop-i.out, at-loop.loop-i.p)) ∙ at-loop.loop-i.invariant
+
+pub returns : goal.returns
+returns c = sym (hex-none _ _ c.loop-i-test.false _) ∙ c.loop-i.invariant
