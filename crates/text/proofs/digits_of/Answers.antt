@@ -24,6 +24,3 @@ pub returns : goal.returns
 returns c =
     let inv = c.loop-m.invariant in
     (omega arith, first-digit _ _ _ _ inv.0 (omega arith) inv.4 (omega arith))
-
-pub bounds-d-i-2 : goal.bounds-d-i-2
-bounds-d-i-2 c = simp length-set (c.loop-m.invariant.3 ∙ sym c.requires)

@@ -14,5 +14,5 @@ returns c =
     let stored = wrote in
     let a = stored.args in
     let d = stored.digits_of-i in
-    let rest = take_all (20 - d.result) (drop d.result d.new.0) (simp length-drop (omega arith)) in
+    let rest = take_all (20 - d.result) (drop d.result d.new.d) (simp length-drop (omega arith)) in
     wrote.put_bytes.ensures ∙ ap (λ (t : List ℕ). emit t (a.out.now, a.to)) (rest ∙ d.ensures.1)

@@ -1,7 +1,7 @@
 -- Answers to the goals of `check/total`.
 use mathlib.Core.Path.{◌≡◌, ap}
 use mathlib.Core.List.{List}
-use Prim.Native.Nat.{ℕ, ◌+◌, ◌*◌, ◌%◌, ◌≤◌, ◌<◌}
+use Prim.Native.Nat.{ℕ, ◌+◌, ◌*◌, ◌≤◌, ◌<◌}
 use native.Mathlib.Omega.{arith}
 use lib.ListN.{length, drop, drop_of_length-le}
 use Rattle.octets.specs.Octets.{AreBytes, byte}
@@ -9,16 +9,8 @@ use Rattle.blocks.specs.Ones.{words, ones_sum}
 use Rattle.blocks.specs.Working.{swapped, plain_sum, folded}
 use Rattle.blocks.proofs.Summing.{fours, fours-more, fours-folded}
 use Rattle.blocks.proofs.check.total.Goals as goal
+use Rattle.blocks.proofs.check.total.Invariants.{Added}
 use Rattle.blocks.proofs.check.total.Goals.{At-loop-i}
-
--- what is added, and what is left
-record Added (b : List ℕ) (i sum : ℕ) : Type 0 where
-  whole : sum + plain_sum (fours (drop i b)) ≡ plain_sum (fours b)
-record Inv (b : List ℕ) (sum i : ℕ) : Type 0 where
-  left : i ≤ 512
-  even : i % 4 ≡ 0
-  small : sum ≤ 4294967295 * i
-  added : Added b i sum
 
 module _ {b : List ℕ} {i sum : ℕ} where
   more_added : i + 3 < length b → {x : ℕ} → x ≡ ((byte b (i + 3) * 256 + byte b (i + 2)) * 256 + byte b (i + 1)) * 256 + byte b i → Added b i sum → Added b (i + 4) (sum + x)

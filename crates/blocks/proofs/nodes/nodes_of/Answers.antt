@@ -8,7 +8,7 @@ pub loop-k-init : goal.loop-k-init
 loop-k-init c = (omega arith, nodes-none _)
 
 pub loop-k-preserved : goal.loop-k-preserved
-loop-k-preserved c = (omega arith, nodes-more _ _ _ _ c.loop-k.invariant.1 (omega arith) c.Node-at.ensures)
+loop-k-preserved c = (omega arith, nodes-more _ _ _ _ c.loop-k.invariant.1 (omega arith) c.node_at-n.ensures)
 
 pub returns : goal.returns
 returns c = let e : c.loop-k.k ≡ 32 = omega arith in nodes-all _ _ (rw e at c.loop-k.invariant.1)
