@@ -1,0 +1,12 @@
+-- `field_fault` meets its contract: the definition's refusals, in its order. Assumes nothing.
+use Rattle.cond.specs.Step.{cond_fault}
+use Rattle.cond.proofs.field_fault.Goals as goal
+
+pub returns : goal.returns
+unfolding cond_fault
+returns c =
+    let ranges = c in
+    let slice = ranges in
+    rw (c.and_then-2.ensures, c.and_then.ensures, c.refuse-again.ensures, c.listed_before.ensures)
+    (rw (ranges.check_ranges-ranges.ensures, ranges.largest.ensures, ranges.block.ensures)
+    (rw (slice.refuse-slice.ensures, slice.is_slice.ensures)))

@@ -1,0 +1,7 @@
+-- `range_fault` meets its contract: the definition's refusals, in its order. Assumes nothing.
+use Rattle.cond.proofs.range_fault.Goals as goal
+
+pub returns : goal.returns
+returns c =
+    let empty = c in
+    rw (c.and_then.ensures, c.refuse-meeting.ensures, c.meets_earlier.ensures, empty.refuse-empty.ensures, empty.empty_in.ensures)

@@ -1,0 +1,17 @@
+-- Answers to the goals of `named_among`.
+use mathlib.Core.Path.{◌≡◌, sym}
+use native.Mathlib.Omega.{arith}
+use Rattle.answer.proofs.Walk.{where-none, where-more, where-at}
+use Rattle.header.proofs.named_among.Goals as goal
+
+pub loop-i-init : goal.loop-i-init
+loop-i-init c = (omega arith, where-none _)
+
+pub returns-then-has_name : goal.returns-then-has_name
+returns-then-has_name c = sym (where-at _ _ _ (omega arith) c.loop-i.invariant.1 (cc))
+
+pub loop-i-preserved : goal.loop-i-preserved
+loop-i-preserved c = (omega arith, where-more _ _ c.loop-i.invariant.1 (cc))
+
+pub returns : goal.returns
+returns c = let k = c in let all : k.loop-i.i ≡ k.args.n = omega arith in sym (rw all at k.loop-i.invariant.1)

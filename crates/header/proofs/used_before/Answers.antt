@@ -1,0 +1,12 @@
+-- `used_before` meets its contract: by what its caller knows, or what the walk over the fields before found. Assumes nothing.
+use mathlib.Core.Path.{sym}
+use Rattle.header.proofs.used_before.Goals as goal
+
+pub returns-then-not-met : goal.returns-then-not-met
+returns-then-not-met c = let k = c in sym (k.requires (c.if-not-met.true))
+
+pub returns-in-At : goal.returns-in-At
+returns-in-At c = let found = c in rw (← found.named_among.ensures, c.in-At.is)
+
+pub returns-in-None : goal.returns-in-None
+returns-in-None c = let found = c in rw (← found.named_among.ensures, c.in-None.is)
