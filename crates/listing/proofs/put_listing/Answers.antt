@@ -1,0 +1,60 @@
+-- `put_listing` meets its contract: the lines one after another, of an accepted sheet, which has a header, and whose counts are small. Assumes nothing.
+use mathlib.Core.Path.{ap, ◌∙◌}
+use Prim.Native.Nat.{◌≤◌}
+use native.Mathlib.Omega.{arith}
+use lib.Seq.{slice}
+use Rattle.text.proofs.Emit.{then}
+use Rattle.header.specs.declared.Header.{Header}
+use Rattle.listing.specs.Listing.{listing}
+use Rattle.listing.proofs.Wrote.{header-wrote, fields-wrote, template-wrote, conds-wrote}
+use Rattle.listing.proofs.Told.{has-header, same-header, counts-small}
+use Rattle.listing.proofs.put_listing.Goals as goal
+use Rattle.listing.proofs.put_listing.Goals.{After-block_counts-n}
+
+pub returns-in_default : goal.returns-in_default
+returns-in_default c =
+    let made = c in
+    let given = made in
+    absurd (has-header given.args.s.now given.requires.accepted c.in_default.is made.new.ensures)
+
+-- the counts of an accepted sheet are small
+few : (c : After-block_counts-n) → (c.block_counts-n.result.fields ≤ 64) × (c.block_counts-n.result.lengths ≤ 3) × (c.block_counts-n.result.conds ≤ 32)
+few c =
+    let made = c in
+    let given = made in
+    counts-small given.args.s.now given.requires.accepted c.block_counts-n.ensures
+
+pub put_fields-p-requires : goal.put_fields-p-requires
+put_fields-p-requires c = let wrote = c in (few (goal.at.put_fields-p-requires c).After-block_counts-n).0
+
+pub returns : goal.returns
+unfolding listing
+returns c =
+    let c6 = c in
+    let c5 = c6 in
+    let c4 = c5 in
+    let c3 = c4 in
+    let c2 = c3 in
+    let c1 = c2 in
+    let wrote = c1 in
+    let counted = wrote in
+    let told = counted in
+    let made = told in
+    let given = made in
+    let s = given.args.s.now in
+    let is = same-header s told.in-Is.is made.new.ensures in
+    let counts = counted.block_counts-n.ensures in
+    let template = c3.part.ensures ∙ ap (λ (h : Header). slice 0 h.len.0 given.args.buf.now) is ∙ given.requires.buf_value in
+    then _ _ _ (header-wrote s _ is wrote.put_header-p.ensures)
+    (then _ _ _ (fields-wrote s _ counts c2.put_fields-p.ensures)
+    (then _ _ _ (template-wrote s _ template c3.put_template-p.ensures)
+    (then _ _ _ c4.put_slot-p.ensures
+    (then _ _ _ c5.put_slot-p-2.ensures
+    (then _ _ _ c6.put_slot-p-3.ensures
+    (conds-wrote s _ counts c.put_conds.ensures))))))
+
+pub overflow_add-first : goal.overflow_add-first
+overflow_add-first c = omega (arith, few (goal.at.overflow_add-first c).After-block_counts-n)
+
+pub overflow_add-end : goal.overflow_add-end
+overflow_add-end c = omega (arith, few (goal.at.overflow_add-end c).After-block_counts-n)
