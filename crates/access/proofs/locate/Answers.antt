@@ -9,9 +9,9 @@ pub locator_of-requires : goal.locator_of-requires
 locator_of-requires c =
     let got = header-given _ c.checked_header.ensures c.in-Is.is in
     record {
-  accepted = got.0;
-  header_value = ap (λ (h : Header). h.len.0) (sym got.1);
-}
+      accepted = got.0;
+      header_value = ap (λ (h : Header). h.len.0) (sym got.1);
+    }
 
 pub returns-in-Refused : goal.returns-in-Refused
 returns-in-Refused c = sym (sheet-refused _ _ (header_refused _ c.checked_header.ensures c.in-Refused.is))

@@ -6,8 +6,7 @@ use Rattle.access.proofs.read_bytes.Goals as goal
 
 pub returns-in-Is : goal.returns-in-Is
 returns-in-Is c =
-    let p = c in
-    c.read_bytes.ensures ∙ ap part_of (read-there _ _ (locator-given _ _ p.locate.ensures p.in-Is.is) _ _)
+    c.read_bytes.ensures ∙ ap part_of (read-there _ _ (locator-given _ _ c.locate.ensures c.in-Is.is) _ _)
 
 pub returns-in-Refused : goal.returns-in-Refused
 returns-in-Refused c = sym (ap part_of (read-refused _ _ (locator-refused _ _ c.locate.ensures c.in-Refused.is) _ _))

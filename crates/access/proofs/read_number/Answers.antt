@@ -5,8 +5,7 @@ use Rattle.access.proofs.read_number.Goals as goal
 
 pub returns-in-Is : goal.returns-in-Is
 returns-in-Is c =
-    let p = c in
-    c.read_number.ensures ∙ read-there _ _ (locator-given _ _ p.locate.ensures p.in-Is.is) _ _
+    c.read_number.ensures ∙ read-there _ _ (locator-given _ _ c.locate.ensures c.in-Is.is) _ _
 
 pub returns-in-Refused : goal.returns-in-Refused
 returns-in-Refused c = sym (read-refused _ _ (locator-refused _ _ c.locate.ensures c.in-Refused.is) _ _)

@@ -4,8 +4,7 @@ use Rattle.access.proofs.write_bytes.Goals as goal
 
 pub returns-in-Is : goal.returns-in-Is
 returns-in-Is c =
-    let p = c in
-    written-there _ _ (locator-given _ _ p.locate.ensures p.in-Is.is) c.write_bytes.ensures
+    written-there _ _ (locator-given _ _ c.locate.ensures c.in-Is.is) c.write_bytes.ensures
 
 pub returns-in-Refused : goal.returns-in-Refused
 returns-in-Refused c = not_written _ _ _ _ _ (locator-refused _ _ c.locate.ensures c.in-Refused.is)

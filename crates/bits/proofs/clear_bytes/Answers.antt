@@ -5,18 +5,14 @@ use Rattle.bits.proofs.clear_bytes.Goals as goal
 
 pub zero_out-requires : goal.zero_out-requires
 zero_out-requires c =
-    let told = c in
-    let answered = told in
     record {
-  count_in_bounds = bytes-within _ _ _ _ (sym answered.bytes_answer.ensures ∙ told.in-Done.is);
-  are_bytes = λ i. (answered.slice_known-1.given i).fits;
-}
+      count_in_bounds = bytes-within _ _ _ _ (sym c.bytes_answer.ensures ∙ c.in-Done.is);
+      are_bytes = λ i. (c.slice_known-1.given i).fits;
+    }
 
 pub returns-in-Done : goal.returns-in-Done
 returns-in-Done c =
-    let cleared = c in
-    let told = cleared in
-    record { answer = sym told.in-Done.is ∙ told.bytes_answer.ensures; bytes = cleared.zero_out.ensures }
+    record { answer = sym c.in-Done.is ∙ c.bytes_answer.ensures; bytes = c.zero_out.ensures }
 
 pub returns-in-Outside : goal.returns-in-Outside
 returns-in-Outside c = record { answer = sym c.in-Outside.is ∙ c.bytes_answer.ensures; bytes = refl }

@@ -19,12 +19,11 @@ long c = ap length c.loop-i.invariant.1 ∙ put-length _ _ _ _
 
 pub loop-i-preserved : goal.loop-i-preserved
 loop-i-preserved c =
-    let at-loop = c in
-    let a = at-loop.args in
-    let i = at-loop.loop-i.i in
+    let a = c.args in
+    let i = c.loop-i.i in
     let small : byte a.bytes.now i < 256 = (c.shared_slice_known-1.given i).fits in (
       omega arith,
-      one-byte-more a.buf.now at-loop.loop-i.buf a.from i _ _ (byte a.bytes.now i) (omega arith) at-loop.loop-i.invariant.1 (omega arith) small
+      one-byte-more a.buf.now c.loop-i.buf a.from i _ _ (byte a.bytes.now i) (omega arith) c.loop-i.invariant.1 (omega arith) small
           ∙ ap (put a.buf.now (8 * a.from) (8 * (i + 1))) (sym (rw (zero-add i) at (value-more a.bytes.now 0 i (rw (zero-add i) small)))),
     )
 

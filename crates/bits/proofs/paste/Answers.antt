@@ -19,7 +19,7 @@ steps : (c : After-cut) →
     let come = a.v * 2 ^ (64 - (a.skipped + a.w)) % 2 ^ 64 in
     let all = pasted a.x a.w (64 - (a.skipped + a.w)) a.v in
     (gone ≤ a.x) × (a.x - gone + come ≡ all) × (all < 2 ^ 64)
-steps c = let k = c in pasting k.args.x k.args.w _ k.args.v (omega arith) k.ranges.x.fits k.requires.v_bound c.cut.ensures
+steps c = pasting c.args.x c.args.w _ c.args.v (omega arith) c.ranges.x.fits c.requires.v_bound c.cut.ensures
 
 pub overflow_sub-result : goal.overflow_sub-result
 overflow_sub-result c = omega (arith, steps (goal.at.overflow_sub-result c).After-cut)

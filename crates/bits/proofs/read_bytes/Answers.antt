@@ -14,11 +14,10 @@ within c = bytes-within _ _ _ _ (sym c.bytes_answer.ensures ∙ c.in-Done.is)
 
 pub returns-in-Done : goal.returns-in-Done
 returns-in-Done c =
-    let told = c in
-    let a = told.args in
+    let a = c.args in
     let count : a.from.0 + a.count.0 - a.from.0 ≡ a.count.0 = omega arith in
     ap (λ (n : ℕ). take n (drop a.from.0 a.buf.now)) count
-    ∙ bytes-part a.buf.now _ a.from.0 a.count.0 BytesWrite.Done (sym told.in-Done.is ∙ told.bytes_answer.ensures)
+    ∙ bytes-part a.buf.now _ a.from.0 a.count.0 BytesWrite.Done (sym c.in-Done.is ∙ c.bytes_answer.ensures)
 
 pub overflow_add-e : goal.overflow_add-e
 overflow_add-e c = omega (arith, within (goal.at.overflow_add-e c).In-Done)
@@ -30,7 +29,7 @@ pub slice_bounds-result-end-in-Done : goal.slice_bounds-result-end-in-Done
 slice_bounds-result-end-in-Done c = omega (arith, within (goal.at.slice_bounds-result-end-in-Done c).In-Done)
 
 pub returns-in-Outside : goal.returns-in-Outside
-returns-in-Outside c = let told = c in bytes-part _ _ _ _ BytesWrite.Outside (sym told.in-Outside.is ∙ told.bytes_answer.ensures)
+returns-in-Outside c = bytes-part _ _ _ _ BytesWrite.Outside (sym c.in-Outside.is ∙ c.bytes_answer.ensures)
 
 pub returns-in-Short : goal.returns-in-Short
-returns-in-Short c = let told = c in bytes-part _ _ _ _ BytesWrite.Short (sym told.in-Short.is ∙ told.bytes_answer.ensures)
+returns-in-Short c = bytes-part _ _ _ _ BytesWrite.Short (sym c.in-Short.is ∙ c.bytes_answer.ensures)

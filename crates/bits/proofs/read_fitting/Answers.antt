@@ -6,10 +6,8 @@ use Rattle.bits.proofs.read_fitting.Goals as goal
 
 pub returns-then-buf-lt8 : goal.returns-then-buf-lt8
 returns-then-buf-lt8 c =
-    let short = c in
-    let known = short in
-    let a = known.args in
-    window-read a.buf.now (λ i. (known.shared_slice_known-1.given i).fits) (global_of a.start) a.width.0 0 (omega arith) (omega arith) short.short_window.ensures (omega arith) c.cut.ensures
+    let a = c.args in
+    window-read a.buf.now (λ i. (c.shared_slice_known-1.given i).fits) (global_of a.start) a.width.0 0 (omega arith) (omega arith) c.short_window.ensures (omega arith) c.cut.ensures
 
 pub returns : goal.returns
 returns c = c.read_window.ensures

@@ -7,8 +7,7 @@ use Rattle.bits.proofs.read_number.Goals as goal
 
 pub returns-in-Fits : goal.returns-in-Fits
 returns-in-Fits c =
-    let told = c in
-    ap NumberRead.Number c.read_fitting.ensures ∙ sym (read_is _ _ _ _ Fit.Fits (sym told.fit_of.ensures ∙ told.in-Fits.is))
+    ap NumberRead.Number c.read_fitting.ensures ∙ sym (read_is _ _ _ _ Fit.Fits (sym c.fit_of.ensures ∙ c.in-Fits.is))
 
 pub read_fitting-requires : goal.read_fitting-requires
 read_fitting-requires c = fits-narrow _ _ _ _ (sym c.fit_of.ensures ∙ c.in-Fits.is)

@@ -9,10 +9,7 @@ use Rattle.bits.proofs.read_window.Goals as goal
 
 pub returns : goal.returns
 returns c =
-    let loaded = c in
-    let at = loaded in
-    let f = at.window_at-f.result in
-    let known = at in
-    let a = known.args in
-    window-read a.buf.now (λ i. (known.shared_slice_known-1.given i).fits) (global_of a.start) a.width.0 f (omega arith) (omega arith)
-    (loaded.be64-x.ensures ∙ be-part a.buf.now f (f + 8 - f) 8 (omega arith)) (omega arith) c.cut.ensures
+    let f = c.window_at-f.result in
+    let a = c.args in
+    window-read a.buf.now (λ i. (c.shared_slice_known-1.given i).fits) (global_of a.start) a.width.0 f (omega arith) (omega arith)
+    (c.be64-x.ensures ∙ be-part a.buf.now f (f + 8 - f) 8 (omega arith)) (omega arith) c.cut.ensures

@@ -15,18 +15,16 @@ long c = ap length c.loop-i.invariant.1 ∙ put-length _ _ _ _
 
 pub loop-i-init : goal.loop-i-init
 loop-i-init c =
-    let k = c in
-    let a = k.args in
-    (omega arith, no-byte-yet a.buf.now a.from k.requires.are_bytes ∙ ap (put a.buf.now (8 * a.from) (8 * 0)) (sym (first_byte a.x k.ranges.x.fits)))
+    let a = c.args in
+    (omega arith, no-byte-yet a.buf.now a.from c.requires.are_bytes ∙ ap (put a.buf.now (8 * a.from) (8 * 0)) (sym (first_byte a.x c.ranges.x.fits)))
 
 pub loop-i-preserved : goal.loop-i-preserved
 loop-i-preserved c =
-    let at-loop = c in
-    let a = at-loop.args in
-    let i = at-loop.loop-i.i in (
+    let a = c.args in
+    let i = c.loop-i.i in (
       omega arith,
-      ap (set at-loop.loop-i.buf (a.from + i)) (at-loop.reversed-bytes.ensures i (omega arith))
-          ∙ one-byte-more a.buf.now at-loop.loop-i.buf a.from i _ _ (a.x / 2 ^ (56 - 8 * i) % 256) (omega arith) at-loop.loop-i.invariant.1 (omega arith) (omega arith)
+      ap (set c.loop-i.buf (a.from + i)) (c.reversed-bytes.ensures i (omega arith))
+          ∙ one-byte-more a.buf.now c.loop-i.buf a.from i _ _ (a.x / 2 ^ (56 - 8 * i) % 256) (omega arith) c.loop-i.invariant.1 (omega arith) (omega arith)
           ∙ ap (put a.buf.now (8 * a.from) (8 * (i + 1))) (next-byte a.x i (omega arith)),
     )
 

@@ -16,15 +16,13 @@ use Rattle.bits.proofs.write_at_once.Goals.{After-holds}
 
 -- what was tested
 tested : (c : After-holds) →
-    let fit = c in
-    let a = fit.args in
-    (fit.fits.result && c.holds.result) ≡ (fits (fit_of (length a.buf.now) a.within.0 (global_of a.start) a.width.0) && ltb a.v (2 ^ a.width.0))
+    let a = c.args in
+    (c.fits.result && c.holds.result) ≡ (fits (fit_of (length a.buf.now) a.within.0 (global_of a.start) a.width.0) && ltb a.v (2 ^ a.width.0))
 tested c = rw (c.fits.ensures, c.fit_of-fit.ensures, c.holds.ensures)
 
 done : (c : After-holds) →
-    let fit = c in
-    let a = fit.args in
-    is_done (write_answer (length a.buf.now) a.within.0 (global_of a.start) a.width.0 a.v) ≡ (fit.fits.result && c.holds.result)
+    let a = c.args in
+    is_done (write_answer (length a.buf.now) a.within.0 (global_of a.start) a.width.0 a.v) ≡ (c.fits.result && c.holds.result)
 done c = done-is _ _ _ _ _ ∙ sym (tested c)
 
 pub returns-then-buf-lt8 : goal.returns-then-buf-lt8
@@ -35,20 +33,16 @@ returns-then-not-fits-holds c = record { answer = rw (done (goal.at.returns-then
 
 pub write_window-requires : goal.write_window-requires
 write_window-requires c =
-    let test = c in
-    let both = both_hold _ _ (sym (tested (goal.at.write_window-requires c).After-holds) ∙ test.if-not-fits-holds.false) in
+    let both = both_hold _ _ (sym (tested (goal.at.write_window-requires c).After-holds) ∙ c.if-not-fits-holds.false) in
     record {
-  in_bounds = omega arith;
-  width_bound = fits-narrow _ _ _ _ (fits-is _ _ _ _ both.0);
-  v_bound = ltb-true _ _ both.1;
-}
+      in_bounds = omega arith;
+      width_bound = fits-narrow _ _ _ _ (fits-is _ _ _ _ both.0);
+      v_bound = ltb-true _ _ both.1;
+    }
 
 pub returns : goal.returns
 returns c =
-    let written = c in
-    let test = written in
-    let long = test in
     record {
-      answer = rw (le-leb 8 (length long.args.buf.now) (omega arith), done (goal.at.returns c).After-holds ∙ test.if-not-fits-holds.false);
-      bytes = written.write_window.ensures;
+      answer = rw (le-leb 8 (length c.args.buf.now) (omega arith), done (goal.at.returns c).After-holds ∙ c.if-not-fits-holds.false);
+      bytes = c.write_window.ensures;
     }

@@ -6,16 +6,12 @@ use Rattle.bits.proofs.write_fitting.Goals as goal
 
 pub returns-then-buf-lt8 : goal.returns-then-buf-lt8
 returns-then-buf-lt8 c =
-    let stored = c in
-    let pasted = stored in
-    let short = pasted in
-    let known = short in
-    let a = known.args in
-    window-written a.buf.now (λ i. (known.slice_known-1.given i).fits) (global_of a.start) a.width.0 0 (omega arith) (omega arith) short.short_window.ensures
-    a.v known.requires.v_bound (omega arith) (omega arith) pasted.paste-x.ensures stored.store.ensures
+    let a = c.args in
+    window-written a.buf.now (λ i. (c.slice_known-1.given i).fits) (global_of a.start) a.width.0 0 (omega arith) (omega arith) c.short_window.ensures
+    a.v c.requires.v_bound (omega arith) (omega arith) c.paste-x.ensures c.store.ensures
 
 pub store-requires : goal.store-requires
-store-requires c = let short = c in record {
+store-requires c = record {
   count_in_bounds = (omega arith, omega arith);
-  are_bytes = λ i. (short.slice_known-1.given i).fits;
+  are_bytes = λ i. (c.slice_known-1.given i).fits;
 }

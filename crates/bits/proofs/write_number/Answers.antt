@@ -16,26 +16,20 @@ fits c = sym c.fit_of.ensures ∙ c.in-Fits.is
 
 pub returns-then-not-holds : goal.returns-then-not-holds
 returns-then-not-holds c =
-    let holds = c in
-    record { answer = sym (write-large _ _ _ _ _ (fits (goal.at.returns-then-not-holds c).In-Fits) (sym holds.holds.ensures ∙ c.if-not-holds.true)); bytes = refl }
+    record { answer = sym (write-large _ _ _ _ _ (fits (goal.at.returns-then-not-holds c).In-Fits) (sym c.holds.ensures ∙ c.if-not-holds.true)); bytes = refl }
 
 pub write_fitting-requires : goal.write_fitting-requires
 write_fitting-requires c =
-    let test = c in
-    let holds = test in
     record {
-  width_bound = fits-narrow _ _ _ _ (fits (goal.at.write_fitting-requires c).In-Fits);
-  v_bound = ltb-true _ _ (sym holds.holds.ensures ∙ test.if-not-holds.false);
-}
+      width_bound = fits-narrow _ _ _ _ (fits (goal.at.write_fitting-requires c).In-Fits);
+      v_bound = ltb-true _ _ (sym c.holds.ensures ∙ c.if-not-holds.false);
+    }
 
 pub returns-else-not-holds : goal.returns-else-not-holds
 returns-else-not-holds c =
-    let written = c in
-    let test = written in
-    let holds = test in
     record {
-      answer = sym (write_done _ _ _ _ _ (fits (goal.at.returns-else-not-holds c).In-Fits) (sym holds.holds.ensures ∙ test.if-not-holds.false));
-      bytes = written.write_fitting.ensures;
+      answer = sym (write_done _ _ _ _ _ (fits (goal.at.returns-else-not-holds c).In-Fits) (sym c.holds.ensures ∙ c.if-not-holds.false));
+      bytes = c.write_fitting.ensures;
     }
 
 pub returns-in-TooWide : goal.returns-in-TooWide

@@ -13,10 +13,9 @@ long c = ap length c.loop-i.invariant.1 ∙ put-length _ _ _ _
 
 pub loop-i-preserved : goal.loop-i-preserved
 loop-i-preserved c =
-    let at-loop = c in
-    let a = at-loop.args in
-    let i = at-loop.loop-i.i in
-    (omega arith, one-byte-more a.buf.now at-loop.loop-i.buf a.from i _ 0 0 (omega arith) at-loop.loop-i.invariant.1 (omega arith) (omega arith))
+    let a = c.args in
+    let i = c.loop-i.i in
+    (omega arith, one-byte-more a.buf.now c.loop-i.buf a.from i _ 0 0 (omega arith) c.loop-i.invariant.1 (omega arith) (omega arith))
 
 pub loop-i-init : goal.loop-i-init
 loop-i-init c = (omega arith, no-byte-yet c.args.buf.now c.args.from c.requires.are_bytes)

@@ -5,7 +5,5 @@ use Rattle.blocks.proofs.codes_hold.Goals as goal
 pub returns : goal.returns
 unfolding codes_layout
 returns c =
-    let by_kind = c in
-    let by-arg = by_kind in
-    rw (c.byte_at.ensures, c.stated_fixed.ensures, by_kind.stated_default_kind.ensures, by_kind.stated_gen.ensures)
-    (rw (by-arg.stated_arg.ensures, by-arg.stated_repr.ensures))
+    rw (c.byte_at.ensures, c.stated_fixed.ensures, c.stated_default_kind.ensures, c.stated_gen.ensures)
+    (rw (c.stated_arg.ensures, c.stated_repr.ensures))

@@ -12,21 +12,15 @@ loop-i-init c = (omega arith, first-none _)
 pub returns-in-Refused : goal.returns-in-Refused
 unfolding cond_check
 returns-in-Refused c =
-    let v = c in
-    let k = v in
-    stop _ c.in-Refused.is (first_stops _ k.loop-i.i _ (omega arith) k.loop-i.invariant.1 c.in-Refused.is v.entry_fault-v.ensures)
+    stop _ c.in-Refused.is (first_stops _ c.loop-i.i _ (omega arith) c.loop-i.invariant.1 c.in-Refused.is c.entry_fault-v.ensures)
 
 pub loop-i-preserved : goal.loop-i-preserved
 loop-i-preserved c =
-    let v = c in
-    let k = v in
-    (omega arith, first_more _ k.loop-i.i k.loop-i.invariant.1 (passed c.in_default.is v.entry_fault-v.ensures))
+    (omega arith, first_more _ c.loop-i.i c.loop-i.invariant.1 (passed c.in_default.is c.entry_fault-v.ensures))
 
 pub returns : goal.returns
 unfolding cond_check
 returns c =
-    let counted = c in
-    let k = counted in
-    let n = block_count k.args.s.now in
-    let all : k.loop-i.i ≡ n = omega arith in
-    rw (rw all at k.loop-i.invariant.1, c.refuse.ensures, counted.block_counts.ensures, k.block_count-n.ensures)
+    let n = block_count c.args.s.now in
+    let all : c.loop-i.i ≡ n = omega arith in
+    rw (rw all at c.loop-i.invariant.1, c.refuse.ensures, c.block_counts.ensures, c.block_count-n.ensures)

@@ -10,15 +10,11 @@ loop-k-init c = (omega arith, first-none _)
 
 pub returns-in-Refused : goal.returns-in-Refused
 returns-in-Refused c =
-    let v = c in
-    let k = v in
-    first_stops _ k.loop-k.k _ (omega arith) k.loop-k.invariant.1 c.in-Refused.is v.range_fault-v.ensures ∙ ap (first _) k.range_count-n.ensures
+    first_stops _ c.loop-k.k _ (omega arith) c.loop-k.invariant.1 c.in-Refused.is c.range_fault-v.ensures ∙ ap (first _) c.range_count-n.ensures
 
 pub loop-k-preserved : goal.loop-k-preserved
 loop-k-preserved c =
-    let v = c in
-    let k = v in
-    (omega arith, first_more _ k.loop-k.k k.loop-k.invariant.1 (passed c.in_default.is v.range_fault-v.ensures))
+    (omega arith, first_more _ c.loop-k.k c.loop-k.invariant.1 (passed c.in_default.is c.range_fault-v.ensures))
 
 pub returns : goal.returns
-returns c = let k = c in sym k.loop-k.invariant.1 ∙ ap (first _) (omega (arith, k.range_count-n.ensures))
+returns c = sym c.loop-k.invariant.1 ∙ ap (first _) (omega (arith, c.range_count-n.ensures))

@@ -5,8 +5,6 @@ use Rattle.cond.proofs.field_fault.Goals as goal
 pub returns : goal.returns
 unfolding cond_fault
 returns c =
-    let ranges = c in
-    let slice = ranges in
     rw (c.and_then-2.ensures, c.and_then.ensures, c.refuse-again.ensures, c.listed_before.ensures)
-    (rw (ranges.check_ranges-ranges.ensures, ranges.largest.ensures, ranges.block.ensures)
-    (rw (slice.refuse-slice.ensures, slice.is_slice.ensures)))
+    (rw (c.check_ranges-ranges.ensures, c.largest.ensures, c.block.ensures)
+    (rw (c.refuse-slice.ensures, c.is_slice.ensures)))

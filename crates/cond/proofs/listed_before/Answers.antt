@@ -8,27 +8,23 @@ use Rattle.cond.proofs.listed_before.Invariants.{listed}
 use Rattle.cond.proofs.listed_before.Goals.{After-lists}
 
 -- what the test says of block j
-tested : (c : After-lists) → let k = c in let a = k.args in
-    listed a.s.now a.i k.loop-j.j ≡ c.lists.result
+tested : (c : After-lists) → let a = c.args in
+    listed a.s.now a.i c.loop-j.j ≡ c.lists.result
 tested c =
-    let named = c in
-    rw (c.lists.ensures, c.block-in-loop-j.ensures, named.name-wanted.ensures, named.block.ensures)
+    rw (c.lists.ensures, c.block-in-loop-j.ensures, c.name-wanted.ensures, c.block.ensures)
 
 pub loop-j-init : goal.loop-j-init
 loop-j-init c = (omega arith, where-none _)
 
 pub returns-then-lists : goal.returns-then-lists
 returns-then-lists c =
-    let k = c in
-    sym (ap is_some (where-at _ _ _ (omega arith) k.loop-j.invariant.1 (tested (goal.at.returns-then-lists c).After-lists ∙ c.if-lists.true)))
+    sym (ap is_some (where-at _ _ _ (omega arith) c.loop-j.invariant.1 (tested (goal.at.returns-then-lists c).After-lists ∙ c.if-lists.true)))
 
 pub loop-j-preserved : goal.loop-j-preserved
 loop-j-preserved c =
-    let k = c in
-    (omega arith, where-more _ _ k.loop-j.invariant.1 (tested (goal.at.loop-j-preserved c).After-lists ∙ c.if-lists.false))
+    (omega arith, where-more _ _ c.loop-j.invariant.1 (tested (goal.at.loop-j-preserved c).After-lists ∙ c.if-lists.false))
 
 pub returns : goal.returns
 returns c =
-    let k = c in
-    let all : k.loop-j.j ≡ k.args.i = omega arith in
-    sym (ap is_some (rw all at k.loop-j.invariant.1))
+    let all : c.loop-j.j ≡ c.args.i = omega arith in
+    sym (ap is_some (rw all at c.loop-j.invariant.1))

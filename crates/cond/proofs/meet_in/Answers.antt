@@ -14,12 +14,10 @@ had c = rw (c.intersect.ensures, c.clipped_in.ensures, c.clipped_in-2.ensures)
 
 pub returns-in-Is : goal.returns-in-Is
 returns-in-Is c =
-    let k = c in
-    let a = k.args in
+    let a = c.args in
     meeting a.b.now a.most a.j a.k (sym (had (goal.at.returns-in-Is c).After-intersect) ∙ ap intersection_says c.in-Is.is) c.is_empty.ensures
 
 pub returns-in-Refused : goal.returns-in-Refused
 returns-in-Refused c =
-    let k = c in
-    let a = k.args in
+    let a = c.args in
     absurd (never-given (sym (had (goal.at.returns-in-Refused c).After-intersect) ∙ ap intersection_says c.in-Refused.is) (in-common a.b.now a.most a.j a.k))

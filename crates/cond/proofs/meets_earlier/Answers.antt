@@ -10,16 +10,13 @@ loop-j-init c = (omega arith, where-none _)
 
 pub returns-then-meet_in : goal.returns-then-meet_in
 returns-then-meet_in c =
-    let k = c in
-    sym (ap is_some (where-at _ _ _ (omega arith) k.loop-j.invariant.1 (sym c.meet_in.ensures ∙ c.if-meet_in.true)))
+    sym (ap is_some (where-at _ _ _ (omega arith) c.loop-j.invariant.1 (sym c.meet_in.ensures ∙ c.if-meet_in.true)))
 
 pub loop-j-preserved : goal.loop-j-preserved
 loop-j-preserved c =
-    let k = c in
-    (omega arith, where-more _ _ k.loop-j.invariant.1 (sym c.meet_in.ensures ∙ c.if-meet_in.false))
+    (omega arith, where-more _ _ c.loop-j.invariant.1 (sym c.meet_in.ensures ∙ c.if-meet_in.false))
 
 pub returns : goal.returns
 returns c =
-    let k = c in
-    let all : k.loop-j.j ≡ k.args.k = omega arith in
-    sym (ap is_some (rw all at k.loop-j.invariant.1))
+    let all : c.loop-j.j ≡ c.args.k = omega arith in
+    sym (ap is_some (rw all at c.loop-j.invariant.1))

@@ -3,5 +3,4 @@ use Rattle.cond.proofs.range_fault.Goals as goal
 
 pub returns : goal.returns
 returns c =
-    let empty = c in
-    rw (c.and_then.ensures, c.refuse-meeting.ensures, c.meets_earlier.ensures, empty.refuse-empty.ensures, empty.empty_in.ensures)
+    rw (c.and_then.ensures, c.refuse-meeting.ensures, c.meets_earlier.ensures, c.refuse-empty.ensures, c.empty_in.ensures)

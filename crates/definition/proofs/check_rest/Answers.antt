@@ -14,10 +14,8 @@ two_steps c = rw (c.and_then-v.ensures, c.check-2.ensures, c.check.ensures)
 
 pub returns-in-Refused : goal.returns-in-Refused
 returns-in-Refused c =
-    let said = c in
     rw (← (and_then-assoc (length_check _ _) (cond_check _) (gives _)), ← (two_steps (goal.at.returns-in-Refused c).After-and_then-v), c.in-Refused.is)
 
 pub returns : goal.returns
 returns c =
-    let said = c in
     rw (← (and_then-assoc (length_check _ _) (cond_check _) (gives _)), passed c.in_default.is (two_steps (goal.at.returns c).After-and_then-v))

@@ -7,10 +7,8 @@ returns-in-Refused c = refused-early _ c.in-Refused.is c.check_fields-v.ensures
 
 pub returns-in-Refused-new : goal.returns-in-Refused-new
 returns-in-Refused-new c =
-    let made = c in
-    refused-third _ made.in_default.is made.check_fields-v.ensures c.in-Refused-new.is made.new.ensures
+    refused-third _ c.in_default.is c.check_fields-v.ensures c.in-Refused-new.is c.new.ensures
 
 pub returns-in-Is : goal.returns-in-Is
 returns-in-Is c =
-    let made = c in
-    third-passed _ made.in_default.is made.check_fields-v.ensures c.in-Is.is made.new.ensures c.check_rest.ensures
+    third-passed _ c.in_default.is c.check_fields-v.ensures c.in-Is.is c.new.ensures c.check_rest.ensures

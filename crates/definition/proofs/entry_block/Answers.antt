@@ -22,8 +22,7 @@ overflow_add-result-then-k-n c = omega (arith, few (goal.at.overflow_add-result-
 pub returns-then-k-n : goal.returns-then-k-n
 unfolding entry_block
 returns-then-k-n c =
-    let k = c in
-    rw (k.block_counts-n.ensures, lt-ltb _ _ (rw k.block_counts-n.ensures at c.if-k-n.true))
+    rw (c.block_counts-n.ensures, lt-ltb _ _ (rw c.block_counts-n.ensures at c.if-k-n.true))
 
 pub returns : goal.returns
 unfolding entry_block

@@ -20,8 +20,7 @@ returns-in_default c = rw (← c.entry_block.ensures, c.in_default.is)
 
 pub returns-in-At-unchecked_field_named : goal.returns-in-At-unchecked_field_named
 returns-in-At-unchecked_field_named c =
-    let n = c in
-    rw (found (goal.at.returns-in-At-unchecked_field_named c).After-unchecked_field_named, c.in-At-unchecked_field_named.is, ← n.block-b.ensures, ← c.range_count.ensures)
+    rw (found (goal.at.returns-in-At-unchecked_field_named c).After-unchecked_field_named, c.in-At-unchecked_field_named.is, ← c.block-b.ensures, ← c.range_count.ensures)
 
 pub returns-in-None : goal.returns-in-None
 returns-in-None c = rw (found (goal.at.returns-in-None c).After-unchecked_field_named, c.in-None.is)

@@ -5,9 +5,6 @@ use Rattle.field.proofs.check_items.Goals as goal
 pub returns : goal.returns
 unfolding field_check
 returns c =
-    let third = c in
-    let second = third in
-    let one = second in
     rw (c.and_then-3.ensures, c.and_then-2.ensures, c.and_then.ensures, c.check_default-value.ensures)
-    (rw (third.refuse-handed.ensures, third.bad_arg.ensures, second.refuse-held.ensures, second.bad_repr.ensures)
-    (rw (one.refuse-wide.ensures, one.bad_width.ensures, one.arg_or_repr-a.ensures, one.repr_or_inferred-t.ensures)))
+    (rw (c.refuse-handed.ensures, c.bad_arg.ensures, c.refuse-held.ensures, c.bad_repr.ensures)
+    (rw (c.refuse-wide.ensures, c.bad_width.ensures, c.arg_or_repr-a.ensures, c.repr_or_inferred-t.ensures)))

@@ -16,15 +16,11 @@ all c = rw c.block_counts-n.ensures
 
 pub returns-in-Refused : goal.returns-in-Refused
 returns-in-Refused c =
-    let v = c in
-    let k = v in
-    first_stops _ k.loop-i.i _ (omega arith) k.loop-i.invariant.1 c.in-Refused.is (rw v.block.ensures at v.check_block-v.ensures) ∙ ap (first _) (all (goal.at.returns-in-Refused c).After-block_counts-n)
+    first_stops _ c.loop-i.i _ (omega arith) c.loop-i.invariant.1 c.in-Refused.is (rw c.block.ensures at c.check_block-v.ensures) ∙ ap (first _) (all (goal.at.returns-in-Refused c).After-block_counts-n)
 
 pub loop-i-preserved : goal.loop-i-preserved
 loop-i-preserved c =
-    let v = c in
-    let k = v in
-    (omega arith, first_more _ k.loop-i.i k.loop-i.invariant.1 (passed c.in_default.is (rw v.block.ensures at v.check_block-v.ensures)))
+    (omega arith, first_more _ c.loop-i.i c.loop-i.invariant.1 (passed c.in_default.is (rw c.block.ensures at c.check_block-v.ensures)))
 
 pub returns : goal.returns
-returns c = let k = c in sym k.loop-i.invariant.1 ∙ ap (first _) (omega (arith, all (goal.at.returns c).After-block_counts-n))
+returns c = sym c.loop-i.invariant.1 ∙ ap (first _) (omega (arith, all (goal.at.returns c).After-block_counts-n))

@@ -7,19 +7,17 @@ use Rattle.header.proofs.bits_before.Goals as goal
 
 pub loop-i-preserved : goal.loop-i-preserved
 loop-i-preserved c =
-    let k = c in
-    let s = k.args.s.now in
+    let s = c.args.s.now in
     let bits = c.bits_in-sum.ensures in (
       omega arith,
-      rw (k.loop-i.invariant.1, bits.0, c.block.ensures) (sym (position-more (header_field_at s) k.loop-i.i)),
+      rw (c.loop-i.invariant.1, bits.0, c.block.ensures) (sym (position-more (header_field_at s) c.loop-i.i)),
       omega (arith, bits.1),
     )
 
 pub returns : goal.returns
 returns c =
-    let k = c in
-    let all : k.loop-i.i ≡ k.args.n = omega arith in
-    k.loop-i.invariant.1 ∙ ap (start_at _) all
+    let all : c.loop-i.i ≡ c.args.n = omega arith in
+    c.loop-i.invariant.1 ∙ ap (start_at _) all
 
 pub loop-i-init : goal.loop-i-init
 loop-i-init c = (omega arith, omega (arith, position-none (header_field_at c.args.s.now)), omega arith)

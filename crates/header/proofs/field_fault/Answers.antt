@@ -5,33 +5,25 @@ use Rattle.header.proofs.field_fault.Goals as goal
 pub returns : goal.returns
 unfolding header_fault
 returns c =
-    let chained = c in
-    let long = chained in
-    let off = long in
-    let spread = off in
-    let reserved = spread in
-    let named = reserved in
-    let again = named in
-    let start = again in
     rw (
       c.and_then-4.ensures,
       c.and_then-3.ensures,
       c.and_then-2.ensures,
-      chained.and_then.ensures,
-      long.refuse-long.ensures,
-      long.too_long.ensures,
-      off.refuse-off.ensures,
-      off.off_boundary.ensures,
-      spread.refuse-spread.ensures,
-      spread.over_eight.ensures,
-      reserved.refuse-reserved.ensures,
-      reserved.is_reserved.ensures,
-      named.name.ensures,
-      named.block.ensures,
-      again.refuse-again.ensures,
-      again.new-at.ensures,
-      start.requires.used_value,
-      start.requires.start_value,
-      start.requires.width_value,
-      start.requires.repr_value,
+      c.and_then.ensures,
+      c.refuse-long.ensures,
+      c.too_long.ensures,
+      c.refuse-off.ensures,
+      c.off_boundary.ensures,
+      c.refuse-spread.ensures,
+      c.over_eight.ensures,
+      c.refuse-reserved.ensures,
+      c.is_reserved.ensures,
+      c.name.ensures,
+      c.block.ensures,
+      c.refuse-again.ensures,
+      c.new-at.ensures,
+      c.requires.used_value,
+      c.requires.start_value,
+      c.requires.width_value,
+      c.requires.repr_value,
     )

@@ -14,4 +14,4 @@ pub loop-i-preserved : goal.loop-i-preserved
 loop-i-preserved c = (omega arith, where-more _ _ c.loop-i.invariant.1 (cc))
 
 pub returns : goal.returns
-returns c = let k = c in let all : k.loop-i.i ≡ k.args.n = omega arith in sym (rw all at k.loop-i.invariant.1)
+returns c = let all : c.loop-i.i ≡ c.args.n = omega arith in sym (rw all at c.loop-i.invariant.1)

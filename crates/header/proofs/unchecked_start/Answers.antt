@@ -13,8 +13,7 @@ bits_before-requires c =
 pub returns-then-i-block_counts : goal.returns-then-i-block_counts
 unfolding start_of
 returns-then-i-block_counts c =
-    let at_test = c in
-    let there = rw at_test.block_counts.ensures at at_test.if-i-block_counts.true in
+    let there = rw c.block_counts.ensures at c.if-i-block_counts.true in
     rw (c.new.ensures, c.bits_before.ensures, there)
 
 pub returns : goal.returns

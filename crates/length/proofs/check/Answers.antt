@@ -5,9 +5,7 @@ use Rattle.length.proofs.check.Goals as goal
 pub returns : goal.returns
 unfolding length_check
 returns c =
-    let trees = c in
-    let both = trees in
     rw (c.and_then-4.ensures, c.and_then-3.ensures, c.and_then-2.ensures, c.and_then.ensures)
-    (rw (trees.check_trees.ensures, trees.check_length_field-third.ensures, trees.check_length_field-second.ensures)
-    (rw (trees.check_length_field-first.ensures, both.refuse-both.ensures, both.block_count.ensures)
-    (rw (both.is_given-2.ensures, both.is_given.ensures))))
+    (rw (c.check_trees.ensures, c.check_length_field-third.ensures, c.check_length_field-second.ensures)
+    (rw (c.check_length_field-first.ensures, c.refuse-both.ensures, c.block_count.ensures)
+    (rw (c.is_given-2.ensures, c.is_given.ensures))))

@@ -5,4 +5,4 @@ pub returns-in_default : goal.returns-in_default
 returns-in_default c = rw c.in_default.is
 
 pub returns : goal.returns
-returns c = let worked = c in rw (c.and_then.ensures, c.field_fault.ensures, c.length_fault-lengths.ensures, worked.of_default.ensures, worked.largest.ensures, worked.in-Is.is)
+returns c = rw (c.and_then.ensures, c.field_fault.ensures, c.length_fault-lengths.ensures, c.of_default.ensures, c.largest.ensures, c.in-Is.is)

@@ -8,10 +8,9 @@ use Rattle.length.proofs.check_length_field.Goals as goal
 
 pub returns-in_default : goal.returns-in_default
 returns-in_default c =
-    let k = c in
-    let a = k.args in
+    let a = c.args in
     let left = held_fault a.s.now a.header.0 a.slot (or_zero (block_of_slot a.s.now a.slot)) in
-    rw (← k.slot_of-given.ensures.0) (sym (unheld left refl refl k.slot_of-given.result.held c.in_default.not-Expr))
+    rw (← c.slot_of-given.ensures.0) (sym (unheld left refl refl c.slot_of-given.result.held c.in_default.not-Expr))
 
 pub returns : goal.returns
 returns c =

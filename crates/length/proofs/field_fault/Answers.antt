@@ -5,7 +5,6 @@ use Rattle.length.proofs.field_fault.Goals as goal
 pub returns : goal.returns
 unfolding length_field_fault
 returns c =
-    let third = c in
     rw (c.and_then-3.ensures, c.and_then-2.ensures, c.and_then.ensures)
-    (rw (c.refuse-fixed.ensures, third.refuse-other.ensures, third.bad_arg.ensures)
-    (rw (third.refuse-generated.ensures, third.refuse-wide.ensures)))
+    (rw (c.refuse-fixed.ensures, c.refuse-other.ensures, c.bad_arg.ensures)
+    (rw (c.refuse-generated.ensures, c.refuse-wide.ensures)))

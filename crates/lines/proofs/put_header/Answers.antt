@@ -6,6 +6,4 @@ use Rattle.lines.proofs.put_header.Goals as goal
 pub returns : goal.returns
 unfolding header_line
 returns c =
-    let c2 = c in
-    let c1 = c2 in
-    ended _ _ _ c1.put_bytes-p.ensures (word _ _ _ c2.put_number-p.ensures no_words) c.put_byte.ensures
+    ended _ _ _ c.put_bytes-p.ensures (word _ _ _ c.put_number-p.ensures no_words) c.put_byte.ensures

@@ -7,6 +7,4 @@ returns-then-bytes-eq0 c = no-hex c.args.bytes.now c.if-bytes-eq0.true
 
 pub returns : goal.returns
 returns c =
-    let first = c in
-    let tested = first in
-    some-hex tested.args.bytes.now _ tested.if-bytes-eq0.false first.put_byte-p.ensures c.put_hex.ensures
+    some-hex c.args.bytes.now _ c.if-bytes-eq0.false c.put_byte-p.ensures c.put_hex.ensures

@@ -6,6 +6,4 @@ use Rattle.lines.proofs.put_template.Goals as goal
 pub returns : goal.returns
 unfolding template_line
 returns c =
-    let c2 = c in
-    let c1 = c2 in
-    ended _ _ _ c1.put_bytes-p.ensures c2.put_hex_word-p.ensures c.put_byte.ensures
+    ended _ _ _ c.put_bytes-p.ensures c.put_hex_word-p.ensures c.put_byte.ensures

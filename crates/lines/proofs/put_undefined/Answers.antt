@@ -7,10 +7,7 @@ use Rattle.lines.proofs.put_undefined.Goals as goal
 pub returns : goal.returns
 unfolding undefined_line
 returns c =
-    let c3 = c in
-    let c2 = c3 in
-    let c1 = c2 in
-    ended _ _ _ c1.put_bytes-p.ensures
-    (word _ _ _ (short _ _ c2.slot_word.ensures c2.put_short-p.ensures)
-    (word _ _ _ c3.put_word-p.ensures no_words))
+    ended _ _ _ c.put_bytes-p.ensures
+    (word _ _ _ (short _ _ c.slot_word.ensures c.put_short-p.ensures)
+    (word _ _ _ c.put_word-p.ensures no_words))
     c.put_byte.ensures

@@ -12,12 +12,10 @@ loop-i-init c = refl
 
 pub loop-i-preserved : goal.loop-i-preserved
 loop-i-preserved c =
-    let wrote = c in
-    let turn = wrote in
-    let a = turn.args in
+    let a = c.args in
     let f = cond_text a.s.now in
-    let i = turn.loop-i.i in
-    ap (emit (texts f (i + 1) a.e)) wrote.put_cond-p.ensures ∙ sym (texts-go f i a.e wrote.loop-i-test.true (turn.loop-i.out, turn.loop-i.p)) ∙ turn.loop-i.invariant
+    let i = c.loop-i.i in
+    ap (emit (texts f (i + 1) a.e)) c.put_cond-p.ensures ∙ sym (texts-go f i a.e c.loop-i-test.true (c.loop-i.out, c.loop-i.p)) ∙ c.loop-i.invariant
 
 pub returns : goal.returns
 returns c = sym (texts-none _ _ _ c.loop-i-test.false _) ∙ c.loop-i.invariant

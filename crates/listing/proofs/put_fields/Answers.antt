@@ -17,22 +17,19 @@ pub loop-i-init : goal.loop-i-init
 loop-i-init c = record { left = refl; sum = omega (arith, position-none (header_field_at c.args.s.now)); small = omega arith }
 
 pub overflow_add-start : goal.overflow_add-start
-overflow_add-start c = let wrote = c in omega (arith, wrote.resolved-f.ensures.1)
+overflow_add-start c = omega (arith, c.resolved-f.ensures.1)
 
 pub loop-i-preserved : goal.loop-i-preserved
 loop-i-preserved c =
-    let wrote = c in
-    let made = wrote in
-    let turn = made in
-    let a = turn.args in
+    let a = c.args in
     let s = a.s.now in
-    let i = turn.loop-i.i in
-    let f = made.resolved-f.ensures in
-    let b = made.block-b.ensures in
-    let o : Output = (turn.loop-i.out, turn.loop-i.p) in
-    let wrote-line = field-wrote s i o turn.loop-i.invariant.sum (f.0 ∙ ap resolved_in b) (wrote.name.ensures ∙ ap name_of b) wrote.put_field-p.ensures in record {
-      left = ap (emit (texts (field_text s) (i + 1) a.n)) wrote-line ∙ sym (texts-go (field_text s) i a.n made.loop-i-test.true o) ∙ turn.loop-i.invariant.left;
-      sum = rw (turn.loop-i.invariant.sum, f.0, b) (sym (position-more (header_field_at s) i));
+    let i = c.loop-i.i in
+    let f = c.resolved-f.ensures in
+    let b = c.block-b.ensures in
+    let o : Output = (c.loop-i.out, c.loop-i.p) in
+    let wrote-line = field-wrote s i o c.loop-i.invariant.sum (f.0 ∙ ap resolved_in b) (c.name.ensures ∙ ap name_of b) c.put_field-p.ensures in record {
+      left = ap (emit (texts (field_text s) (i + 1) a.n)) wrote-line ∙ sym (texts-go (field_text s) i a.n c.loop-i-test.true o) ∙ c.loop-i.invariant.left;
+      sum = rw (c.loop-i.invariant.sum, f.0, b) (sym (position-more (header_field_at s) i));
       small = omega (arith, f.1);
     }
 

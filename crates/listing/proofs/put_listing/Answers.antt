@@ -13,44 +13,29 @@ use Rattle.listing.proofs.put_listing.Goals.{After-block_counts-n}
 
 pub returns-in_default : goal.returns-in_default
 returns-in_default c =
-    let made = c in
-    let given = made in
-    absurd (has-header given.args.s.now given.requires.accepted c.in_default.is made.new.ensures)
+    absurd (has-header c.args.s.now c.requires.accepted c.in_default.is c.new.ensures)
 
 -- the counts of an accepted sheet are small
 few : (c : After-block_counts-n) → (c.block_counts-n.result.fields ≤ 64) × (c.block_counts-n.result.lengths ≤ 3) × (c.block_counts-n.result.conds ≤ 32)
 few c =
-    let made = c in
-    let given = made in
-    counts-small given.args.s.now given.requires.accepted c.block_counts-n.ensures
+    counts-small c.args.s.now c.requires.accepted c.block_counts-n.ensures
 
 pub put_fields-p-requires : goal.put_fields-p-requires
-put_fields-p-requires c = let wrote = c in (few (goal.at.put_fields-p-requires c).After-block_counts-n).0
+put_fields-p-requires c = (few (goal.at.put_fields-p-requires c).After-block_counts-n).0
 
 pub returns : goal.returns
 unfolding listing
 returns c =
-    let c6 = c in
-    let c5 = c6 in
-    let c4 = c5 in
-    let c3 = c4 in
-    let c2 = c3 in
-    let c1 = c2 in
-    let wrote = c1 in
-    let counted = wrote in
-    let told = counted in
-    let made = told in
-    let given = made in
-    let s = given.args.s.now in
-    let is = same-header s told.in-Is.is made.new.ensures in
-    let counts = counted.block_counts-n.ensures in
-    let template = c3.part.ensures ∙ ap (λ (h : Header). slice 0 h.len.0 given.args.buf.now) is ∙ given.requires.buf_value in
-    then _ _ _ (header-wrote s _ is wrote.put_header-p.ensures)
-    (then _ _ _ (fields-wrote s _ counts c2.put_fields-p.ensures)
-    (then _ _ _ (template-wrote s _ template c3.put_template-p.ensures)
-    (then _ _ _ c4.put_slot-p.ensures
-    (then _ _ _ c5.put_slot-p-2.ensures
-    (then _ _ _ c6.put_slot-p-3.ensures
+    let s = c.args.s.now in
+    let is = same-header s c.in-Is.is c.new.ensures in
+    let counts = c.block_counts-n.ensures in
+    let template = c.part.ensures ∙ ap (λ (h : Header). slice 0 h.len.0 c.args.buf.now) is ∙ c.requires.buf_value in
+    then _ _ _ (header-wrote s _ is c.put_header-p.ensures)
+    (then _ _ _ (fields-wrote s _ counts c.put_fields-p.ensures)
+    (then _ _ _ (template-wrote s _ template c.put_template-p.ensures)
+    (then _ _ _ c.put_slot-p.ensures
+    (then _ _ _ c.put_slot-p-2.ensures
+    (then _ _ _ c.put_slot-p-3.ensures
     (conds-wrote s _ counts c.put_conds.ensures))))))
 
 pub overflow_add-first : goal.overflow_add-first

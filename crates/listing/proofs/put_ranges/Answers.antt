@@ -13,13 +13,11 @@ loop-j-init c = ap (λ (k : ℕ). emit (spaced (ranges_from c.args.s.now c.args.
 
 pub loop-j-preserved : goal.loop-j-preserved
 loop-j-preserved c =
-    let wrote = c in
-    let turn = wrote in
-    let a = turn.args in
+    let a = c.args in
     let s = a.s.now in
-    let j = turn.loop-j.j in
+    let j = c.loop-j.j in
     let left = spaced (ranges_from s a.i (j + 1) (a.n - (j + 1))) in
-    ap (emit left) (wrote.put_range-p.ensures ∙ rw wrote.range_numbers.ensures) ∙ sym (ranges-go s a.i j a.n (turn.loop-j.out, turn.loop-j.p) c.loop-j-test.true) ∙ turn.loop-j.invariant
+    ap (emit left) (c.put_range-p.ensures ∙ rw c.range_numbers.ensures) ∙ sym (ranges-go s a.i j a.n (c.loop-j.out, c.loop-j.p) c.loop-j-test.true) ∙ c.loop-j.invariant
 
 pub returns : goal.returns
 returns c = sym (ranges-none _ _ _ _ _ c.loop-j-test.false) ∙ c.loop-j.invariant

@@ -9,26 +9,21 @@ use Rattle.listing.proofs.put_text.Goals as goal
 
 pub put_listing-requires : goal.put_listing-requires
 put_listing-requires c =
-    let at-build = c in
-    let built = rw c.in-Accepted.is at at-build.build_header_template.ensures in
-    let s = at-build.args.s.now in
+    let built = rw c.in-Accepted.is at c.build_header_template.ensures in
+    let s = c.args.s.now in
     record {
-  accepted = built-accepted s (zero-bytes 8192) built;
-  buf_value = built-front s (zero-bytes 8192) built;
-}
+      accepted = built-accepted s (zero-bytes 8192) built;
+      buf_value = built-front s (zero-bytes 8192) built;
+    }
 
 pub returns-in-Accepted : goal.returns-in-Accepted
 returns-in-Accepted c =
-    let told = c in
-    let at-build = told in
-    let built = rw told.in-Accepted.is at at-build.build_header_template.ensures in
-    let a = at-build.args in
+    let built = rw c.in-Accepted.is at c.build_header_template.ensures in
+    let a = c.args in
     c.put_listing.ensures ∙ ap (λ (t : List ℕ). emit t (a.out.now, Cursor.At 0)) (text-accepted a.s.now (sym built.answer))
 
 pub returns-in-Refused : goal.returns-in-Refused
 returns-in-Refused c =
-    let told = c in
-    let at-build = told in
-    let built = rw told.in-Refused.is at at-build.build_header_template.ensures in
-    let a = at-build.args in
+    let built = rw c.in-Refused.is at c.build_header_template.ensures in
+    let a = c.args in
     c.put_refusal.ensures ∙ ap (λ (t : List ℕ). emit t (a.out.now, Cursor.At 0)) (text-refused a.s.now c.in-Refused.reason built.answer)

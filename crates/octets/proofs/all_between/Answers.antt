@@ -8,9 +8,8 @@ use Rattle.octets.proofs.all_between.Goals as goal
 
 pub loop-i-preserved : goal.loop-i-preserved
 loop-i-preserved c =
-    let at-loop = c in
-    let s = at-loop.args.s.now in
-    at-loop.loop-i.invariant ∙ rw (all_more _ s at-loop.loop-i.i _ c.loop-i-test.true (omega arith)) (simp and_assoc)
+    let s = c.args.s.now in
+    c.loop-i.invariant ∙ rw (all_more _ s c.loop-i.i _ c.loop-i-test.true (omega arith)) (simp and_assoc)
 
 pub returns : goal.returns
 returns c =

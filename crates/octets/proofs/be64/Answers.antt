@@ -5,13 +5,10 @@ use Rattle.octets.proofs.be64.Goals as goal
 
 pub returns-then-t-ge8 : goal.returns-then-t-ge8
 returns-then-t-ge8 c =
-    let at_part = c in
-    let a = at_part.args in
-    c.first_eight.ensures ∙ be-from a.s.now a.at 8 at_part.part_from-t.ensures
+    let a = c.args in
+    c.first_eight.ensures ∙ be-from a.s.now a.at 8 c.part_from-t.ensures
 
 pub returns : goal.returns
 returns c =
-    let at-padded = c in
-    let at_part = at-padded in
-    let a = at_part.args in
-    c.first_eight-2.ensures ∙ be-alike _ _ at-padded.padded.ensures.1 0 8 ∙ be-from a.s.now a.at 8 at_part.part_from-t.ensures
+    let a = c.args in
+    c.first_eight-2.ensures ∙ be-alike _ _ c.padded.ensures.1 0 8 ∙ be-from a.s.now a.at 8 c.part_from-t.ensures

@@ -11,11 +11,10 @@ use Rattle.octets.proofs.padded.Goals as goal
 
 pub loop-i-preserved : goal.loop-i-preserved
 loop-i-preserved c =
-    let at-loop = c in
-    let inv = at-loop.loop-i.invariant in (
+    let inv = c.loop-i.invariant in (
       omega arith,
-      length-set at-loop.loop-i.eight at-loop.loop-i.i _ ∙ inv.1,
-      copied_more at-loop.loop-i.eight at-loop.args.s.now at-loop.loop-i.i inv.2 (omega arith) (omega arith),
+      length-set c.loop-i.eight c.loop-i.i _ ∙ inv.1,
+      copied_more c.loop-i.eight c.args.s.now c.loop-i.i inv.2 (omega arith) (omega arith),
     )
 
 pub returns : goal.returns

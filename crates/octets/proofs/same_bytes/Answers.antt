@@ -7,13 +7,11 @@ use Rattle.octets.proofs.same_bytes.Goals as goal
 
 pub returns-then-s-i : goal.returns-then-s-i
 returns-then-s-i c =
-    let at-loop = c in
-    sym (at-loop.loop-i.invariant ∙ same_more _ _ at-loop.loop-i.i (omega arith) (omega arith) ∙ rw (ne_eqb _ _ c.if-s-i.true))
+    sym (c.loop-i.invariant ∙ same_more _ _ c.loop-i.i (omega arith) (omega arith) ∙ rw (ne_eqb _ _ c.if-s-i.true))
 
 pub loop-i-preserved : goal.loop-i-preserved
 loop-i-preserved c =
-    let at-loop = c in
-    at-loop.loop-i.invariant ∙ same_more _ _ at-loop.loop-i.i (omega arith) (omega arith) ∙ rw (eq-eqb _ _ c.if-s-i.false)
+    c.loop-i.invariant ∙ same_more _ _ c.loop-i.i (omega arith) (omega arith) ∙ rw (eq-eqb _ _ c.if-s-i.false)
 
 pub returns-then-s-t : goal.returns-then-s-t
 returns-then-s-t c = let a = c.args in sym (same-lengths a.s.now a.t.now (λ e. omega arith))

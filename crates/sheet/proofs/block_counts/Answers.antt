@@ -8,12 +8,11 @@ use Rattle.sheet.proofs.block_counts.Goals as goal
 
 pub with-all-requires : goal.with-all-requires
 with-all-requires c =
-    let k = c in omega (arith, counts-le _ k.loop-i.i k.loop-i.invariant.1)
+    omega (arith, counts-le _ c.loop-i.i c.loop-i.invariant.1)
 
 pub loop-i-preserved : goal.loop-i-preserved
 loop-i-preserved c =
-    let k = c in
-    (omega arith, c.with-all.ensures ∙ counts-more _ k.loop-i.i k.loop-i.invariant.1 (c.kind.ensures ∙ ap kind_of c.block.ensures))
+    (omega arith, c.with-all.ensures ∙ counts-more _ c.loop-i.i c.loop-i.invariant.1 (c.kind.ensures ∙ ap kind_of c.block.ensures))
 
 pub loop-i-init : goal.loop-i-init
 loop-i-init c = (omega arith, sym (counts-none _))

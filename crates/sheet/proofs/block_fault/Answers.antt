@@ -5,29 +5,22 @@ use Rattle.sheet.proofs.block_fault.Goals as goal
 pub returns : goal.returns
 unfolding block_fault
 returns c =
-    let chained = c in
-    let slot = chained in
-    let bytes = slot in
-    let count = bytes in
-    let order = count in
-    let check = order in
-    let block = check in
     rw (
       c.and_then-4.ensures,
       c.and_then-3.ensures,
       c.and_then-2.ensures,
-      chained.and_then.ensures,
-      slot.refuse-slot.ensures,
-      slot.slot_before.ensures,
-      bytes.refuse-bytes.ensures,
-      bytes.layout_holds.ensures,
-      count.refuse-count.ensures,
-      count.too_many.ensures,
-      order.refuse-order.ensures,
-      order.misplaced.ensures,
-      check.refuse-check.ensures,
-      check.check_holds.ensures,
-      check.kind-kind.ensures,
-      block.block-b.ensures,
-      block.requires,
+      c.and_then.ensures,
+      c.refuse-slot.ensures,
+      c.slot_before.ensures,
+      c.refuse-bytes.ensures,
+      c.layout_holds.ensures,
+      c.refuse-count.ensures,
+      c.too_many.ensures,
+      c.refuse-order.ensures,
+      c.misplaced.ensures,
+      c.refuse-check.ensures,
+      c.check_holds.ensures,
+      c.kind-kind.ensures,
+      c.block-b.ensures,
+      c.requires,
     )

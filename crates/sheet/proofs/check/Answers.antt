@@ -12,25 +12,18 @@ use Rattle.sheet.proofs.check.Goals as goal
 pub returns-in-Refused : goal.returns-in-Refused
 unfolding sheet_check
 returns-in-Refused c =
-    let v = c in
-    let k = v in
-    miss Group.Sheet 1 0 k.if-s-n.false (first_stops _ k.loop-i.i _ (omega arith) k.loop-i.invariant.ok c.in-Refused.is v.block_fault-v.ensures)
+    miss Group.Sheet 1 0 c.if-s-n.false (first_stops _ c.loop-i.i _ (omega arith) c.loop-i.invariant.ok c.in-Refused.is c.block_fault-v.ensures)
 
 pub with-before-requires : goal.with-before-requires
 with-before-requires c =
-    let v = c in
-    let k = v in
-    omega (arith, counts-le _ k.loop-i.i k.loop-i.invariant.counted)
+    omega (arith, counts-le _ c.loop-i.i c.loop-i.invariant.counted)
 
 pub loop-i-preserved : goal.loop-i-preserved
 loop-i-preserved c =
-    let told = c in
-    let v = told in
-    let k = v in
     record {
       left = omega arith;
-      counted = c.with-before.ensures ∙ counts-more _ k.loop-i.i k.loop-i.invariant.counted (c.kind.ensures ∙ ap kind_of c.block.ensures);
-      ok = first_more _ k.loop-i.i k.loop-i.invariant.ok (passed told.in_default.is v.block_fault-v.ensures);
+      counted = c.with-before.ensures ∙ counts-more _ c.loop-i.i c.loop-i.invariant.counted (c.kind.ensures ∙ ap kind_of c.block.ensures);
+      ok = first_more _ c.loop-i.i c.loop-i.invariant.ok (passed c.in_default.is c.block_fault-v.ensures);
     }
 
 pub returns : goal.returns

@@ -10,12 +10,10 @@ use Rattle.sheet.proofs.slot_before.Goals.{After-slot_among}
 
 -- of an L block the walk decides
 walked : (c : After-slot_among) →
-    let k = c in
-    let a = k.args in
+    let a = c.args in
     slot_before a.s.now a.i ≡ is_some (slot_block_says c.slot_among.result)
 walked c =
-    let k = c in
-    rw (← k.block-b.ensures, ← k.kind.ensures, eq-eqb _ _ c.if-kind-ne76.false, ← c.stated_slot.ensures, ← c.slot_among.ensures)
+    rw (← c.block-b.ensures, ← c.kind.ensures, eq-eqb _ _ c.if-kind-ne76.false, ← c.stated_slot.ensures, ← c.slot_among.ensures)
 
 pub returns-then-kind-ne76 : goal.returns-then-kind-ne76
 returns-then-kind-ne76 c = rw (← c.block-b.ensures, ← c.kind.ensures, ne_eqb _ _ c.if-kind-ne76.true)

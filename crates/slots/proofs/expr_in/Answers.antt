@@ -10,7 +10,4 @@ returns-then-form-eq-TREE c = rw (← c.stated_form-form.ensures, c.if-form-eq-T
 pub returns : goal.returns
 unfolding expr_in
 returns c =
-    let second = c in
-    let first = second in
-    let tested = first in
-    rw (← tested.stated_form-form.ensures, ne_eqb _ 6 tested.if-form-eq-TREE.false, ← first.first_number-one.ensures, ← second.second_number-two.ensures) c.of_form.ensures
+    rw (← c.stated_form-form.ensures, ne_eqb _ 6 c.if-form-eq-TREE.false, ← c.first_number-one.ensures, ← c.second_number-two.ensures) c.of_form.ensures

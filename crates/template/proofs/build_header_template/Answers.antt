@@ -8,9 +8,9 @@ pub fill_header-requires : goal.fill_header-requires
 fill_header-requires c =
     let got = header-given _ c.checked_header.ensures c.in-Is.is in
     record {
-  accepted = got.0;
-  h_value = sym got.1;
-}
+      accepted = got.0;
+      h_value = sym got.1;
+    }
 
 pub returns-in-Refused : goal.returns-in-Refused
 returns-in-Refused c = built-refused _ _ _ (header_refused _ c.checked_header.ensures c.in-Refused.is)

@@ -28,36 +28,23 @@ room c = omega (arith, c.requires.n_value.1, c.loop-i.invariant.filled.same_leng
 
 pub fill_field-requires : goal.fill_field-requires
 fill_field-requires c =
-    let found = c in
-    let turn = found in
-    let start = turn in
-    rw (found.resolved-f.ensures.0, found.block-b.ensures, turn.loop-i.invariant.next)
-    (fillable start.args.s.now start.requires.accepted turn.loop-i.i (there (goal.at.fill_field-requires c).In-loop-i) turn.loop-i.buf (room (goal.at.fill_field-requires c).In-loop-i))
+    rw (c.resolved-f.ensures.0, c.block-b.ensures, c.loop-i.invariant.next)
+    (fillable c.args.s.now c.requires.accepted c.loop-i.i (there (goal.at.fill_field-requires c).In-loop-i) c.loop-i.buf (room (goal.at.fill_field-requires c).In-loop-i))
 
 pub overflow_add-start : goal.overflow_add-start
 overflow_add-start c =
-    let done = c in
-    let found = done in
-    let turn = found in
-    let start = turn in
-    omega (arith, found.resolved-f.ensures.1, turn.loop-i.invariant.next, field-inside start.args.s.now turn.loop-i.i (there (goal.at.overflow_add-start c).In-loop-i), few_bytes start.args.s.now start.requires.accepted)
+    omega (arith, c.resolved-f.ensures.1, c.loop-i.invariant.next, field-inside c.args.s.now c.loop-i.i (there (goal.at.overflow_add-start c).In-loop-i), few_bytes c.args.s.now c.requires.accepted)
 
 pub loop-i-preserved : goal.loop-i-preserved
 loop-i-preserved c =
-    let done = c in
-    let found = done in
-    let turn = found in
-    let k = turn in
-    let start = k in
-    let s = start.args.s.now in record {
+    let s = c.args.s.now in record {
       few = omega arith;
-      next = rw (k.loop-i.invariant.next, found.resolved-f.ensures.0, found.block-b.ensures) (sym (position-more (header_field_at s) k.loop-i.i));
-      filled = rw (done.fill_field.ensures, found.resolved-f.ensures.0, found.block-b.ensures, k.loop-i.invariant.next)
-          (filled_next s start.requires.accepted k.loop-i.i (there (goal.at.loop-i-preserved c).In-loop-i) start.requires.n_value.1 k.loop-i.invariant.filled);
+      next = rw (c.loop-i.invariant.next, c.resolved-f.ensures.0, c.block-b.ensures) (sym (position-more (header_field_at s) c.loop-i.i));
+      filled = rw (c.fill_field.ensures, c.resolved-f.ensures.0, c.block-b.ensures, c.loop-i.invariant.next)
+          (filled_next s c.requires.accepted c.loop-i.i (there (goal.at.loop-i-preserved c).In-loop-i) c.requires.n_value.1 c.loop-i.invariant.filled);
     }
 
 pub returns : goal.returns
 returns c =
-    let k = c in
-    let all : k.loop-i.i ≡ k.args.n = omega arith in
-    rw (all, k.requires.n_value.0) at k.loop-i.invariant.filled
+    let all : c.loop-i.i ≡ c.args.n = omega arith in
+    rw (all, c.requires.n_value.0) at c.loop-i.invariant.filled

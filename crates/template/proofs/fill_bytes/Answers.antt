@@ -11,19 +11,13 @@ use Rattle.template.proofs.fill_bytes.Goals as goal
 
 pub returns-then-span-eq0 : goal.returns-then-span-eq0
 returns-then-span-eq0 c =
-    let cleared = c in
-    let test = cleared in
-    let start = test in
-    let a = start.args in
-    bytes-put start.requires.count_in_bounds (omega arith) cleared.clear_bytes.ensures
+    let a = c.args in
+    bytes-put c.requires.count_in_bounds (omega arith) c.clear_bytes.ensures
     ∙ ap (put a.buf.now (8 * a.from.0) (8 * a.count.0)) (sym (none-stated a.b.now a.span.at a.span.len (omega arith)))
 
 pub returns-else-span-eq0 : goal.returns-else-span-eq0
 returns-else-span-eq0 c =
-    let written = c in
-    let test = written in
-    let start = test in
-    let a = start.args in
-    let stated : a.span.len ≡ a.count.0 = ⊎_elim (λ e. e) (λ e. omega arith) start.requires.fact in
-    stated-filled written.part.ensures
-    (length-slice a.span.at (a.span.at + a.span.len) a.b.now start.requires.len_in_bounds ∙ omega arith) start.requires.count_in_bounds written.write_bytes.ensures
+    let a = c.args in
+    let stated : a.span.len ≡ a.count.0 = ⊎_elim (λ e. e) (λ e. omega arith) c.requires.fact in
+    stated-filled c.part.ensures
+    (length-slice a.span.at (a.span.at + a.span.len) a.b.now c.requires.len_in_bounds ∙ omega arith) c.requires.count_in_bounds c.write_bytes.ensures

@@ -16,22 +16,15 @@ long c = ap (λ (h : Header). h.len.0) c.requires.h_value
 
 pub returns-then-buf-len : goal.returns-then-buf-len
 returns-then-buf-len c =
-    let known = c in
-    let start = known in
-    built-no-room start.args.s.now start.args.buf.now _ (ap (refused Group.Room 1) c.block_count.ensures) start.requires.accepted (omega (arith, long (goal.at.returns-then-buf-len c).After-struct_known-1))
+    built-no-room c.args.s.now c.args.buf.now _ (ap (refused Group.Room 1) c.block_count.ensures) c.requires.accepted (omega (arith, long (goal.at.returns-then-buf-len c).After-struct_known-1))
 
 pub fill-requires : goal.fill-requires
 fill-requires c =
-    let known = c in
-    let start = known in
     record {
-  accepted = start.requires.accepted;
-  n_value = (ap (λ (h : Header). h.fields) start.requires.h_value, omega (arith, long (goal.at.fill-requires c).After-struct_known-1, whole-bytes start.args.s.now start.requires.accepted));
-}
+      accepted = c.requires.accepted;
+      n_value = (ap (λ (h : Header). h.fields) c.requires.h_value, omega (arith, long (goal.at.fill-requires c).After-struct_known-1, whole-bytes c.args.s.now c.requires.accepted));
+    }
 
 pub returns : goal.returns
 returns c =
-    let filled = c in
-    let known = filled in
-    let start = known in
-    built start.args.s.now start.args.buf.now _ start.requires.accepted (omega (arith, long (goal.at.returns c).After-struct_known-1)) filled.fill.ensures
+    built c.args.s.now c.args.buf.now _ c.requires.accepted (omega (arith, long (goal.at.returns c).After-struct_known-1)) c.fill.ensures

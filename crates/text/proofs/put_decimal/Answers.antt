@@ -10,9 +10,7 @@ use Rattle.text.proofs.put_decimal.Goals as goal
 
 pub returns : goal.returns
 returns c =
-    let wrote = c in
-    let stored = wrote in
-    let a = stored.args in
-    let d = stored.digits_of-i in
+    let a = c.args in
+    let d = c.digits_of-i in
     let rest = take_all (20 - d.result) (drop d.result d.new.d) (simp length-drop (omega arith)) in
-    wrote.put_bytes.ensures ∙ ap (λ (t : List ℕ). emit t (a.out.now, a.to)) (rest ∙ d.ensures.1)
+    c.put_bytes.ensures ∙ ap (λ (t : List ℕ). emit t (a.out.now, a.to)) (rest ∙ d.ensures.1)

@@ -16,13 +16,10 @@ hex_digit-requires-in-loop-i c = omega (arith, (c.shared_slice_known-in-loop-i-1
 
 pub loop-i-preserved : goal.loop-i-preserved
 loop-i-preserved c =
-    let call = c in
-    let low = call in
-    let at-loop = low in
-    let s = at-loop.args.s.now in
-    let i = at-loop.loop-i.i in
-    let digits = rw (low.hex_digit.ensures, low.hex_digit-in-loop-i.ensures) at call.put_bytes-p.ensures in
-    ap (emit (hex (drop (i + 1) s))) digits ∙ sym (hex-go s i (omega arith) (at-loop.loop-i.out, at-loop.loop-i.p)) ∙ at-loop.loop-i.invariant
+    let s = c.args.s.now in
+    let i = c.loop-i.i in
+    let digits = rw (c.hex_digit.ensures, c.hex_digit-in-loop-i.ensures) at c.put_bytes-p.ensures in
+    ap (emit (hex (drop (i + 1) s))) digits ∙ sym (hex-go s i (omega arith) (c.loop-i.out, c.loop-i.p)) ∙ c.loop-i.invariant
 
 pub returns : goal.returns
 returns c = sym (hex-none _ _ c.loop-i-test.false _) ∙ c.loop-i.invariant

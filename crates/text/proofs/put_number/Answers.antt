@@ -5,5 +5,4 @@ use Rattle.text.proofs.put_number.Goals as goal
 
 pub returns : goal.returns
 returns c =
-    let number = c in
-    then (32 ∷ []) _ _ number.put_byte-p.ensures number.put_decimal.ensures
+    then (32 ∷ []) _ _ c.put_byte-p.ensures c.put_decimal.ensures

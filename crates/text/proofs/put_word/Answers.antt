@@ -5,5 +5,4 @@ use Rattle.text.proofs.put_word.Goals as goal
 
 pub returns : goal.returns
 returns c =
-    let word = c in
-    then (32 ∷ []) _ _ word.put_byte-p.ensures word.put_bytes.ensures
+    then (32 ∷ []) _ _ c.put_byte-p.ensures c.put_bytes.ensures

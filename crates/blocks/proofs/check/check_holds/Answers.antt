@@ -8,9 +8,8 @@ use Rattle.blocks.proofs.check.check_holds.Goals as goal
 
 pub returns : goal.returns
 returns c =
-    let known = c in
     ap (λ (x : ℕ). eqb x 65535) (c.fold.ensures ∙ c.total.ensures)
-    ∙ sym (check-swapped known.args.b.now (λ i. (known.shared_slice_known-1.given i).fits) (omega arith))
+    ∙ sym (check-swapped c.args.b.now (λ i. (c.shared_slice_known-1.given i).fits) (omega arith))
 
 pub returns-then-b-ne-SIZE : goal.returns-then-b-ne-SIZE
 returns-then-b-ne-SIZE c = sym (check-other c.args.b.now c.if-b-ne-SIZE.true)

@@ -28,9 +28,7 @@ bytes c i = (c.shared_slice_known-1.given i).fits
 
 pub loop-i-preserved : goal.loop-i-preserved
 loop-i-preserved c =
-    let at_read = c in
-    let k = at_read in
-    record { left = omega arith; even = omega arith; small = omega arith; added = more_added (omega arith) c.of_four-sum.ensures.0 k.loop-i.invariant.added }
+    record { left = omega arith; even = omega arith; small = omega arith; added = more_added (omega arith) c.of_four-sum.ensures.0 c.loop-i.invariant.added }
 
 pub returns : goal.returns
 returns c = all-added (bytes (goal.at.returns c).At-loop-i) (omega arith) (omega arith) c.loop-i.invariant.added

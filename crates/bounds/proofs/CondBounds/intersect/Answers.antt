@@ -9,14 +9,12 @@ returns-then-is_excluded c = rw (← c.is_excluded.ensures, ← c.is_excluded-2.
 pub returns : goal.returns
 unfolding intersection
 returns c =
-    let start = c in
-    let tests = start in
     rw (
       c.choose-2.ensures,
       c.ends_earlier.ensures,
-      start.choose.ensures,
-      start.starts_later.ensures,
-      ← tests.is_excluded.ensures,
-      ← tests.is_excluded-2.ensures,
-      start.if-is_excluded.false,
+      c.choose.ensures,
+      c.starts_later.ensures,
+      ← c.is_excluded.ensures,
+      ← c.is_excluded-2.ensures,
+      c.if-is_excluded.false,
     )

@@ -15,13 +15,13 @@ pub returns-in-IdentOnly : goal.returns-in-IdentOnly
 returns-in-IdentOnly c = exactly (goal.at.returns-in-IdentOnly c).Start (rw c.in-IdentOnly.is)
 
 pub returns-in-SimpleAdd : goal.returns-in-SimpleAdd
-returns-in-SimpleAdd c = let k = c in exactly (goal.at.returns-in-SimpleAdd c).Start (rw k.in-SimpleAdd.is c.less.ensures)
+returns-in-SimpleAdd c = exactly (goal.at.returns-in-SimpleAdd c).Start (rw c.in-SimpleAdd.is c.less.ensures)
 
 pub returns-in-SimpleMult : goal.returns-in-SimpleMult
-returns-in-SimpleMult c = let k = c in exactly (goal.at.returns-in-SimpleMult c).Start (rw k.in-SimpleMult.is c.over.ensures)
+returns-in-SimpleMult c = exactly (goal.at.returns-in-SimpleMult c).Start (rw c.in-SimpleMult.is c.over.ensures)
 
 pub returns-in-AddMult : goal.returns-in-AddMult
-returns-in-AddMult c = let k = c in exactly (goal.at.returns-in-AddMult c).Start (rw (c.less-in-AddMult.ensures, c.over-in-AddMult.ensures, k.in-AddMult.is))
+returns-in-AddMult c = exactly (goal.at.returns-in-AddMult c).Start (rw (c.less-in-AddMult.ensures, c.over-in-AddMult.ensures, c.in-AddMult.is))
 
 pub returns-in-MultAdd : goal.returns-in-MultAdd
-returns-in-MultAdd c = let k = c in exactly (goal.at.returns-in-MultAdd c).Start (rw (c.over-in-MultAdd.ensures, c.less-in-MultAdd.ensures, k.in-MultAdd.is))
+returns-in-MultAdd c = exactly (goal.at.returns-in-MultAdd c).Start (rw (c.over-in-MultAdd.ensures, c.less-in-MultAdd.ensures, c.in-MultAdd.is))

@@ -35,12 +35,12 @@ width_is c = c.bits_in-width.ensures.0 ∙ ap stated_bits c.block-b.ensures
 pub field_fault-v-requires : goal.field_fault-v-requires
 field_fault-v-requires c =
     record {
-  used_value = c.used_before-used.ensures ∙ rw (c.name-called.ensures, c.block-b.ensures);
-  start_value = c.loop-i.invariant.sum_is;
-  width_value = width_is (goal.at.field_fault-v-requires c).After-bits_in-width;
-  repr_value = c.repr_of-repr.ensures ∙ ap (λ (b : List ℕ). (resolved_in b).repr) c.block-b.ensures;
-  width_bound = omega (arith, c.bits_in-width.ensures.1);
-}
+      used_value = c.used_before-used.ensures ∙ rw (c.name-called.ensures, c.block-b.ensures);
+      start_value = c.loop-i.invariant.sum_is;
+      width_value = width_is (goal.at.field_fault-v-requires c).After-bits_in-width;
+      repr_value = c.repr_of-repr.ensures ∙ ap (λ (b : List ℕ). (resolved_in b).repr) c.block-b.ensures;
+      width_bound = omega (arith, c.bits_in-width.ensures.1);
+    }
 
 pub returns-in-Refused : goal.returns-in-Refused
 returns-in-Refused c =

@@ -7,7 +7,5 @@ use Rattle.locator.proofs.Locator.is_locator.Goals as goal
 pub returns : goal.returns
 unfolding is_locator
 returns c =
-    let over = c in
-    let t = over in
-    let p = t.args.self in
-    rw (c.has_shape.ensures, over.over_max.ensures, t.byte_pos.ensures, t.touched.ensures, within-is (locator_header p) max_bytes, inside_is (first_bit p) (locator_width p) (locator_header p))
+    let p = c.args.self in
+    rw (c.has_shape.ensures, c.over_max.ensures, c.byte_pos.ensures, c.touched.ensures, within-is (locator_header p) max_bytes, inside_is (first_bit p) (locator_width p) (locator_header p))

@@ -4,6 +4,4 @@ use Rattle.locator.proofs.Locator.judge_bytes.Goals as goal
 
 pub returns : goal.returns
 returns c =
-    let r = c in
-    let t = r in
-    rw (c.and_then.ensures, r.reach.ensures, t.refuse-counted.ensures, t.are_bits.ensures) (bytes-judged _ _ _)
+    rw (c.and_then.ensures, c.reach.ensures, c.refuse-counted.ensures, c.are_bits.ensures) (bytes-judged _ _ _)

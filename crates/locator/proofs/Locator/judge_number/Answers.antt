@@ -6,14 +6,12 @@ use Rattle.locator.proofs.Locator.judge_number.Goals as goal
 pub returns : goal.returns
 unfolding write_check_at suit
 returns c =
-    let fixed = c in
-    let large = fixed in
     rw (
       c.and_then-2.ensures,
       c.and_then.ensures,
       c.reach.ensures,
-      fixed.refuse-fixed.ensures,
-      fixed.fixed_off.ensures,
-      large.refuse-large.ensures,
-      large.holds.ensures,
+      c.refuse-fixed.ensures,
+      c.fixed_off.ensures,
+      c.refuse-large.ensures,
+      c.holds.ensures,
     )

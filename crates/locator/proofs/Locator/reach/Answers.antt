@@ -10,9 +10,8 @@ use Rattle.locator.proofs.Locator.reach.Goals.{After-is_bytes}
 
 -- the tests, as the definition has them
 tests : (c : After-is_bytes) →
-    let at = c in
-    let a = at.args in
-    ((at.is_locator.result && leb (locator_header a.self) a.n) && beq a.as_bytes c.is_bytes.result)
+    let a = c.args in
+    ((c.is_locator.result && leb (locator_header a.self) a.n) && beq a.as_bytes c.is_bytes.result)
     ≡ ((is_locator a.self && leb (locator_header a.self) a.n) && beq a.as_bytes (held_is_bytes a.self.held))
 tests c = rw (c.is_locator.ensures, c.is_bytes.ensures)
 
@@ -21,5 +20,4 @@ returns-then-is_locator-header c = sym ((tests-are _ _ _).0 (sym (tests (goal.at
 
 pub returns : goal.returns
 returns c =
-    let test = c in
-    c.why_not.ensures ∙ not-reached _ _ _ (λ e. (fails-is _).0 test.if-is_locator-header.false (tests (goal.at.returns c).After-is_bytes ∙ (tests-are _ _ _).1 e))
+    c.why_not.ensures ∙ not-reached _ _ _ (λ e. (fails-is _).0 c.if-is_locator-header.false (tests (goal.at.returns c).After-is_bytes ∙ (tests-are _ _ _).1 e))

@@ -8,19 +8,15 @@ use Rattle.locator.proofs.Locator.read_number.Goals.{After-read_number}
 
 pub returns-then-over_max-is_number_of : goal.returns-then-over_max-is_number_of
 returns-then-over_max-is_number_of c =
-    let test = c in
-    let number = test in
-    let barred = rw (number.over_max.ensures, number.is_number_of.ensures) at test.if-over_max-is_number_of.true in
+    let barred = rw (c.over_max.ensures, c.is_number_of.ensures) at c.if-over_max-is_number_of.true in
     read-refused _ _ _ (c.why_not.ensures ∙ not-reached _ _ _ (no_number _ _ barred))
 
 -- what the run answers is what is owed
 told : (c : After-read_number) →
-    let width = c in
-    let a = width.args in
+    let a = c.args in
     number_told_at a.self.index c.read_number.result ≡ read_at a.self a.buf.now false
 told c =
-    let number = c in
-    let free = not-barred number.over_max.ensures number.is_number_of.ensures c.if-over_max-is_number_of.false in
+    let free = not-barred c.over_max.ensures c.is_number_of.ensures c.if-over_max-is_number_of.false in
     number-told _ _ free.0 free.1 c.read_number.ensures
 
 pub returns-in-Number : goal.returns-in-Number

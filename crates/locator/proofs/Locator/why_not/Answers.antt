@@ -5,15 +5,12 @@ use Rattle.locator.proofs.Locator.why_not.Goals as goal
 
 pub returns-then-not-is_locator : goal.returns-then-not-is_locator
 returns-then-not-is_locator c =
-    let test = c in
-    rw (c.access.ensures, sym test.is_locator.ensures ∙ test.if-not-is_locator.true)
+    rw (c.access.ensures, sym c.is_locator.ensures ∙ c.if-not-is_locator.true)
 
 pub returns-then-n-header : goal.returns-then-n-header
 returns-then-n-header c =
-    let first = c in
-    rw (c.access-then-n-header.ensures, sym first.is_locator.ensures ∙ first.if-not-is_locator.false, lt-ltb _ _ c.if-n-header.true)
+    rw (c.access-then-n-header.ensures, sym c.is_locator.ensures ∙ c.if-not-is_locator.false, lt-ltb _ _ c.if-n-header.true)
 
 pub returns : goal.returns
 returns c =
-    let first = c in
-    rw (c.access-2.ensures, sym first.is_locator.ensures ∙ first.if-not-is_locator.false, le-ltb _ _ c.if-n-header.false)
+    rw (c.access-2.ensures, sym c.is_locator.ensures ∙ c.if-not-is_locator.false, le-ltb _ _ c.if-n-header.false)

@@ -8,6 +8,4 @@ returns-then-bars_number c = not-at-once _ _ _ (number-barred _ _ _ (sym c.bars_
 
 pub returns : goal.returns
 returns c =
-    let written = c in
-    let test = written in
-    number-at-once _ _ _ (sym test.bars_number.ensures ∙ test.if-bars_number.false) written.write_at_once.ensures
+    number-at-once _ _ _ (sym c.bars_number.ensures ∙ c.if-bars_number.false) c.write_at_once.ensures

@@ -12,28 +12,17 @@ use Rattle.locator.proofs.Locator.write_bytes.Goals.{After-slice_known-2-1}
 
 pub returns-then-over_max-is_bytes_of : goal.returns-then-over_max-is_bytes_of
 returns-then-over_max-is_bytes_of c =
-    let test = c in
-    let counted = test in
-    let held = counted in
-    let barred = rw (held.over_max.ensures, held.is_bytes_of.ensures, counted.are_bits.ensures) at test.if-over_max-is_bytes_of.true in
+    let barred = rw (c.over_max.ensures, c.is_bytes_of.ensures, c.are_bits.ensures) at c.if-over_max-is_bytes_of.true in
     not_written _ _ _ (bytes-barred _ _ _ barred) c.judge_bytes.ensures
 
 -- what the run answers, and leaves, is what is owed
 left : (c : After-slice_known-2-1) {j : Verdict} →
-    let written = c in
-    let counted = written in
-    let width = counted in
-    let a = width.args in
-    verdict_says j ≡ bytes_left_at a.self.index written.write_bytes.result → WrittenAt a.self a.buf.now written.write_bytes.new.buf (bytes a.bytes.now) j
+    let a = c.args in
+    verdict_says j ≡ bytes_left_at a.self.index c.write_bytes.result → WrittenAt a.self a.buf.now c.write_bytes.new.buf (bytes a.bytes.now) j
 left c =
-    let written = c in
-    let from = written in
-    let test = from in
-    let counted = test in
-    let held = counted in
-    let two = neither _ _ test.if-over_max-is_bytes_of.false in
-    let free = not-barred held.over_max.ensures held.is_bytes_of.ensures two.0 in
-    bytes_left _ _ _ free.0 free.1 (sym counted.are_bits.ensures ∙ not-false _ two.1) (rw from.byte_pos.ensures at written.write_bytes.ensures)
+    let two = neither _ _ c.if-over_max-is_bytes_of.false in
+    let free = not-barred c.over_max.ensures c.is_bytes_of.ensures two.0 in
+    bytes_left _ _ _ free.0 free.1 (sym c.are_bits.ensures ∙ not-false _ two.1) (rw c.byte_pos.ensures at c.write_bytes.ensures)
 
 pub returns-in-Done : goal.returns-in-Done
 returns-in-Done c = left (goal.at.returns-in-Done c).After-slice_known-2-1 (ap (bytes_left_at _) (sym c.in-Done.is))

@@ -10,19 +10,14 @@ use Rattle.locator.proofs.Locator.write_number.Goals.{After-slice_known-2-1}
 
 pub returns-then-bars_number : goal.returns-then-bars_number
 returns-then-bars_number c =
-    let test = c in
-    not_written _ _ _ (number-barred _ _ _ (sym test.bars_number.ensures ∙ test.if-bars_number.true)) c.judge_number.ensures
+    not_written _ _ _ (number-barred _ _ _ (sym c.bars_number.ensures ∙ c.if-bars_number.true)) c.judge_number.ensures
 
 -- what the run answers, and leaves, is what is owed
 left : (c : After-slice_known-2-1) {j : Verdict} →
-    let written = c in
-    let bars = written in
-    let a = bars.args in
-    verdict_says j ≡ number_left_at a.self.index written.write_number.result → WrittenAt a.self a.buf.now written.write_number.new.buf (number a.v) j
+    let a = c.args in
+    verdict_says j ≡ number_left_at a.self.index c.write_number.result → WrittenAt a.self a.buf.now c.write_number.new.buf (number a.v) j
 left c =
-    let written = c in
-    let test = written in
-    number-left _ _ _ (sym test.bars_number.ensures ∙ test.if-bars_number.false) written.write_number.ensures
+    number-left _ _ _ (sym c.bars_number.ensures ∙ c.if-bars_number.false) c.write_number.ensures
 
 pub returns-in-Done : goal.returns-in-Done
 returns-in-Done c = left (goal.at.returns-in-Done c).After-slice_known-2-1 (ap (number_left_at _) (sym c.in-Done.is))

@@ -6,4 +6,4 @@ pub returns-then-w-lt64 : goal.returns-then-w-lt64
 returns-then-w-lt64 c = let a = c.args in bits-within a.x a.self.0
 
 pub returns-else-w-lt64 : goal.returns-else-w-lt64
-returns-else-w-lt64 c = let k = c in wide-within k.args.x k.args.self.0 k.ranges.x.fits c.if-w-lt64.false
+returns-else-w-lt64 c = wide-within c.args.x c.args.self.0 c.ranges.x.fits c.if-w-lt64.false

@@ -6,18 +6,13 @@ use Rattle.types.proofs.BuiltinTypes.from.Goals as goal
 
 pub returns : goal.returns
 returns c =
-    let c5 = c in
-    let c4 = c5 in
-    let c3 = c4 in
-    let c2 = c3 in
-    let c1 = c2 in
     sym
     (unnamed _
-    (sym c1.is_named.ensures ∙ c1.if-is_named.false)
-    (sym c2.is_named-2.ensures ∙ c2.if-is_named-2.false)
-    (sym c3.is_named-3.ensures ∙ c3.if-is_named-3.false)
-    (sym c4.is_named-4.ensures ∙ c4.if-is_named-4.false)
-    (sym c5.is_named-5.ensures ∙ c5.if-is_named-5.false)
+    (sym c.is_named.ensures ∙ c.if-is_named.false)
+    (sym c.is_named-2.ensures ∙ c.if-is_named-2.false)
+    (sym c.is_named-3.ensures ∙ c.if-is_named-3.false)
+    (sym c.is_named-4.ensures ∙ c.if-is_named-4.false)
+    (sym c.is_named-5.ensures ∙ c.if-is_named-5.false)
     (sym c.is_named-6.ensures ∙ c.if-is_named-6.false))
 
 pub returns-then-is_named : goal.returns-then-is_named

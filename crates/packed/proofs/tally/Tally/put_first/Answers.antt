@@ -6,5 +6,4 @@ use Rattle.packed.proofs.tally.Tally.put_first.Goals as goal
 pub returns : goal.returns
 unfolding first_text
 returns c =
-    let words = c in
-    then _ _ _ words.put_decimal-p.ensures words.put_bytes.ensures
+    then _ _ _ c.put_decimal-p.ensures c.put_bytes.ensures

@@ -1,0 +1,7 @@
+-- `pktfmt_write_bytes_at` meets its contract: what the write at the locator answers is told. Assumes nothing.
+use Rattle.abi.proofs.SixNumbers.{write-told}
+use Rattle.abi.proofs.pktfmt_write_bytes_at.Goals as goal
+
+pub returns : goal.returns
+returns c =
+    write-told c.locator_from.ensures c.write_bytes-v.ensures c.tell_verdict.ensures
