@@ -6,7 +6,7 @@ use Rattle.abi.proofs.pktfmt_back.Goals as goal
 
 pub returns-in-Expr : goal.returns-in-Expr
 returns-in-Expr c =
-    found-by back _ c.form_from.ensures c.in-Expr.is (back-same c.e-1.given.0.0 c.args.y c.ranges.y.fits c.reverse_exec.ensures) c.tell_found.ensures
+    found-by back _ c.form_from.ensures c.in-Expr.is (back-same c.in-Expr.e c.args.y c.ranges.y.fits c.reverse_exec.ensures) c.tell_found.ensures
 
 pub returns-in-None : goal.returns-in-None
 returns-in-None c =

@@ -7,7 +7,8 @@ use Rattle.abi.proofs.pktfmt_fields.Goals as goal
 
 pub tell_fields-requires : goal.tell_fields-requires
 tell_fields-requires c =
-    header-given _ (sym c.checked_header.ensures ∙ ap new_header_says c.in-Is.is)
+    let given = header-given _ (sym c.checked_header.ensures ∙ ap new_header_says c.in-Is.is) in
+    record { h_value = given.0; s_bound = given.1 }
 
 pub returns-in-Is : goal.returns-in-Is
 returns-in-Is c =

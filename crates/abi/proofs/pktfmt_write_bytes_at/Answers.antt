@@ -4,4 +4,5 @@ use Rattle.abi.proofs.pktfmt_write_bytes_at.Goals as goal
 
 pub returns : goal.returns
 returns c =
-    write-told c.locator_from.ensures c.write_bytes-v.ensures c.tell_verdict.ensures
+    let wrote = write-told c.locator_from.ensures c.write_bytes-v.ensures c.tell_verdict.ensures in
+    record { answered = wrote.0; buf_after = wrote.1 }

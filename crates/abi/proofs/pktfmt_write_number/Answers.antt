@@ -4,8 +4,10 @@ use Rattle.abi.proofs.pktfmt_write_number.Goals as goal
 
 pub returns-in-Is : goal.returns-in-Is
 returns-in-Is c =
-    write-there _ _ c.locate.ensures _ _ c.in-Is.is c.locator_numbers-at.ensures c.write_any.ensures.0 c.write_any.ensures.1
+    let wrote = write-there _ _ c.locate.ensures _ _ c.in-Is.is c.locator_numbers-at.ensures c.write_any.ensures.answered c.write_any.ensures.buf_after in
+    record { answered = wrote.0; buf_after = wrote.1 }
 
 pub returns-in-Refused : goal.returns-in-Refused
 returns-in-Refused c =
-    write-refused _ _ c.locate.ensures _ _ c.in-Refused.is c.tell_refusal.ensures
+    let wrote = write-refused _ _ c.locate.ensures _ _ c.in-Refused.is c.tell_refusal.ensures in
+    record { answered = wrote.0; buf_after = wrote.1 }

@@ -6,15 +6,12 @@ use native.Mathlib.Omega.{arith}
 use lib.ListN.{set}
 use Rattle.sheet.specs.Blocks.{cond_count}
 use Rattle.sheet.specs.declared.Counts.{Counts}
-use Rattle.definition.specs.Unchecked.{cond_entry}
 use Rattle.abi.specs.Told.{rows}
-use Rattle.abi.specs.Numbers.{no_pairs, pairs_if}
+use Rattle.abi.specs.Numbers.{no_pairs}
 use Rattle.abi.proofs.Rows.{rows_none, rows_more}
 use Rattle.abi.proofs.Fields.{few-conds}
+use Rattle.abi.proofs.conditions.tell_conditions.Invariants.{entry}
 use Rattle.abi.proofs.conditions.tell_conditions.Goals as goal
-
-abbrev entry : List ℕ → ℕ → List (List ℕ)
-entry s k = pairs_if s (cond_entry s k)
 
 pub loop-k-init : goal.loop-k-init
 loop-k-init c =

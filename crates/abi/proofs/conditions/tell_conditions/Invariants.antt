@@ -4,8 +4,13 @@ use mathlib.Core.List.{List}
 use Prim.Native.Nat.{ℕ, ◌-◌, ◌≤◌}
 use Rattle.sheet.specs.Blocks.{cond_count}
 use Rattle.abi.specs.Told.{rows}
-use Rattle.abi.specs.Numbers.{no_pairs}
+use Rattle.definition.specs.Unchecked.{cond_entry}
+use Rattle.abi.specs.Numbers.{no_pairs, pairs_if}
 use Rattle.abi.proofs.conditions.tell_conditions.Given as goal
+
+-- a row of the table
+abbrev pub entry : List ℕ → ℕ → List (List ℕ)
+entry s k = pairs_if s (cond_entry s k)
 
 pub record SetBefore (s : List ℕ) (conditions : List (List (List ℕ))) (n k : ℕ) : Type 0 where
   pub count : n ≡ cond_count s

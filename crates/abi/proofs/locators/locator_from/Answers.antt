@@ -1,4 +1,5 @@
 -- `locator_from` meets its contract: by the number of what is held. Assumes nothing.
+use lib.ListN.{get_or}
 use borrow.Author.Tests.{ne_eqb}
 use Rattle.abi.specs.Numbers.{held_from}
 use Rattle.abi.proofs.SixNumbers.{bytes-from}
@@ -19,4 +20,4 @@ returns-in-2 c =
 
 pub returns-in_default : goal.returns-in_default
 unfolding held_from
-returns-in_default c = rw (c.locator_with-in_default.ensures, ne_eqb _ 0 (omega arith), ne_eqb _ 1 (omega arith), ne_eqb _ 2 (omega arith))
+returns-in_default c = rw (c.locator_with-in_default.ensures, ne_eqb (get_or c.args.numbers.now 4 0) 0 (omega arith), ne_eqb (get_or c.args.numbers.now 4 0) 1 (omega arith), ne_eqb (get_or c.args.numbers.now 4 0) 2 (omega arith))

@@ -4,4 +4,5 @@ use Rattle.abi.proofs.locators.write_any.Goals as goal
 
 pub returns : goal.returns
 returns c =
-    write-told c.locator_from.ensures c.write_number-v.ensures c.tell_verdict.ensures
+    let wrote = write-told c.locator_from.ensures c.write_number-v.ensures c.tell_verdict.ensures in
+    record { answered = wrote.0; buf_after = wrote.1 }

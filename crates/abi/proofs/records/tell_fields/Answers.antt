@@ -8,20 +8,16 @@ use Rattle.sheet.specs.Blocks.{field_count}
 use Rattle.layout.proofs.Indexed.{position-none, position-more}
 use Rattle.header.specs.declared.Header.{Header}
 use Rattle.header.specs.Starts.{header_field_at}
-use Rattle.access.specs.Access.{locator_of}
 use Rattle.abi.specs.Told.{zeros, rows}
-use Rattle.abi.specs.Numbers.{field_numbers}
 use Rattle.abi.proofs.Rows.{rows_none, rows_more}
+use Rattle.abi.proofs.records.tell_fields.Invariants.{row}
 use Rattle.abi.proofs.records.tell_fields.Goals as goal
-
-abbrev row : List ℕ → ℕ → List ℕ
-row s i = field_numbers s (locator_of s i)
 
 pub loop-i-init : goal.loop-i-init
 loop-i-init c =
     let s = c.args.s.now in
     record {
-      few = omega (arith, ap (λ (h : Header). h.fields) c.requires.0, c.requires.1);
+      few = omega (arith, ap (λ (h : Header). h.fields) c.requires.h_value, c.requires.s_bound);
       within = omega arith;
       done = sym (rows_none (zeros 14) 64 (row s));
       sum = omega (arith, position-none (header_field_at s));
@@ -30,7 +26,11 @@ loop-i-init c =
 
 pub record_at-requires : goal.record_at-requires
 record_at-requires c =
-    (omega (arith, c.loop-i-test.true, c.loop-i.invariant.few), (ap (λ (h : Header). h.len.0) c.requires.0, c.loop-i.invariant.sum))
+    record {
+      i_bound = omega (arith, c.loop-i-test.true, c.loop-i.invariant.few);
+      header_value = ap (λ (h : Header). h.len.0) c.requires.h_value;
+      start_value = c.loop-i.invariant.sum;
+    }
 
 pub bounds-fields-i : goal.bounds-fields-i
 bounds-fields-i c = omega (arith, c.loop-i-test.true, c.loop-i.invariant.few)
@@ -60,5 +60,5 @@ loop-i-preserved c =
 pub returns : goal.returns
 returns c =
     let so_far = c.loop-i.invariant in
-    let all : c.loop-i.i ≡ field_count c.args.s.now = omega (arith, c.loop-i-test.false, so_far.within, ap (λ (h : Header). h.fields) c.requires.0) in
+    let all : c.loop-i.i ≡ field_count c.args.s.now = omega (arith, c.loop-i-test.false, so_far.within, ap (λ (h : Header). h.fields) c.requires.h_value) in
     so_far.done ∙ ap (rows (zeros 14) 64 (row c.args.s.now)) all

@@ -3,8 +3,14 @@ use mathlib.Core.Path.{◌≡◌}
 use mathlib.Core.List.{List}
 use Prim.Native.Nat.{ℕ, ◌-◌, ◌*◌, ◌^◌, ◌≤◌}
 use Rattle.header.specs.Starts.{start_at}
+use Rattle.access.specs.Access.{locator_of}
 use Rattle.abi.specs.Told.{zeros, rows}
+use Rattle.abi.specs.Numbers.{field_numbers}
 use Rattle.abi.proofs.records.tell_fields.Given as goal
+
+-- a row of the table
+abbrev pub row : List ℕ → ℕ → List ℕ
+row s i = field_numbers s (locator_of s i)
 
 pub record SetBefore (s : List ℕ) (fields : List (List ℕ)) (n start i : ℕ) : Type 0 where
   pub few : n ≤ 64
