@@ -14,7 +14,7 @@ use Rattle.answer.specs.declared.Group.{Group}
 use Rattle.answer.specs.declared.Verdict.{Verdict}
 use Rattle.answer.specs.Paper.{Answer, gives, refused, Check, accepted, is_given, verdict_says, refuse, ◌and_then◌}
 use Rattle.answer.proofs.Chains.{stand, both_is, refuse-is, and_then-accepted}
-use Rattle.answer.proofs.Tests.{clash, same_test, both_hold, neither, one-or-other, fails-is, and_is, leb-is, ltb-is, ltb-is-not, eqb_is, not_is}
+use Rattle.answer.proofs.Tests.{clash, same_test, both_hold, neither, one-or-other, fails-is, and_is, leb-is, ltb-is-not, eqb_is, not_is}
 use Rattle.answer.proofs.OneToOne.{refusal-one, verdict-one}
 use Rattle.number.specs.Numbers.{max_bytes}
 use Rattle.bits.specs.declared.NumberRead.{NumberRead}

@@ -14,14 +14,14 @@ pub returns-in-Is : goal.returns-in-Is
 returns-in-Is c =
     let given = sym c.checked_header.ensures ∙ ap new_header_says c.in-Is.is in
     record {
-  told = told-given given c.header_numbers.ensures;
-  fields_after = rw given c.tell_fields.ensures;
-}
+      told = told-given given c.header_numbers.ensures;
+      fields_after = rw given c.tell_fields.ensures;
+    }
 
 pub returns-in-Refused : goal.returns-in-Refused
 returns-in-Refused c =
     let refused = sym c.checked_header.ensures ∙ ap new_header_says c.in-Refused.is in
     record {
-  told = told-refused refused refl c.tell_refusal.ensures;
-  fields_after = rw refused;
-}
+      told = told-refused refused refl c.tell_refusal.ensures;
+      fields_after = rw refused;
+    }

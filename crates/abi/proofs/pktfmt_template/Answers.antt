@@ -5,6 +5,6 @@ use Rattle.abi.proofs.pktfmt_template.Goals as goal
 pub returns : goal.returns
 returns c =
     record {
-  answered = rw c.build_header_template-v.ensures.answer at c.tell_verdict.ensures;
-  buf_after = template-after c.build_header_template-v.ensures;
-}
+      answered = rw c.build_header_template-v.ensures.answer at c.tell_verdict.ensures;
+      buf_after = template-after c.build_header_template-v.ensures;
+    }
