@@ -2,18 +2,26 @@
 // standard error says so.
 #![tactic(auto)]
 
-use libc::{STDIN_FILENO, STDOUT_FILENO};
+use std::io;
+use std::process::ExitCode;
 use streams::Input;
 
-fn main() {
+// A line on standard error: what failed, and why.
+fn failed(rt: &impl Eprint, what: &str, why: io::Error) -> ExitCode {
+    let _ = eprintln!(rt; "lister: {what}: {why}");
+    ExitCode::FAILURE
+}
+
+fn main(rt: HostRuntime) -> ExitCode {
     let mut input = [0u8; 50689];
-    let Input::Bytes(n) = streams::read_to_end(STDIN_FILENO, &mut input) else {
-        os::fail(b"lister: cannot read standard input");
-        return;
+    let n = match streams::read_to_end(&mut rt.stdin(), &mut input) {
+        Input::Bytes(n) => n,
+        Input::Failed(why) => return failed(&rt, "cannot read standard input", why),
     };
     let mut out = [0u8; 40000];
     let k = listing::list_input(&input, n, &mut out);
-    if !io::write_all(STDOUT_FILENO, &out[..k]) {
-        os::fail(b"lister: cannot write standard output");
+    match rt.write_all(&out[..k]) {
+        Ok(()) => ExitCode::SUCCESS,
+        Err(why) => failed(&rt, "cannot write standard output", why),
     }
 }

@@ -7,9 +7,10 @@ ghost use Rattle.std.specs.Prelude.{◌*◌, ◌≤◌};
 
 use access::LocatorAnswer;
 use answer::Verdict;
-use libc::STDOUT_FILENO;
 use locator::{Locator, NumberAnswer};
 use packed::Tally;
+use std::alloc::{AllocError, Global};
+use std::process::ExitCode;
 use streams::Input;
 use text::Cursor;
 
@@ -25,10 +26,8 @@ fn filling(kind: u8, i: usize) -> u8 {
 }
 
 fn fill(buf: &mut [u8], kind: u8) {
-    let mut i = 0;
-    while i < buf.len() {
+    for i in 0..buf.len() {
         buf[i] = filling(kind, i);
-        i += 1;
     }
 }
 
@@ -46,10 +45,8 @@ fn expected(kind: u8, from: usize, differ: &[u8], i: usize) -> u8 {
 
 fn is_left(buf: &[u8], kind: u8, from: usize, differ: &[u8]) -> bool {
     let mut ok = true;
-    let mut i = 0;
-    while i < buf.len() {
+    for i in 0..buf.len() {
         ok = ok & (buf[i] == expected(kind, from, differ, i));
-        i += 1;
     }
     ok
 }
@@ -169,7 +166,7 @@ fn replay_record(tally: Tally, record: &[u8]) -> Replayed
     let p = 6 + packed::two(record, 0);
     let len = packed::two(record, 2);
     let n = octets::be16(record, 4);
-    let mut sheet = io::large_buffer();
+    let mut sheet = [0u8; 65536];
     let whole = packed::unpack(octets::part(record, 6, p), 0, &mut sheet) <= len;
     let ops = octets::part(record, p, record.len());
     let r = replay_operations(tally, octets::part(&sheet, 0, len), whole, ops, n);
@@ -196,19 +193,23 @@ fn replay_all(file: &[u8]) -> Tally {
 }
 
 // Room for the file.
-fn large() -> [u8; 1048576] {
-    [0; 1048576]
+fn large(alloc: Global) -> Result<Vec<u8>, AllocError> {
+    vec![in alloc; 0; 1048576]
 }
 
-fn main() {
-    let mut file = large();
-    let Input::Bytes(n) = streams::read_file(b"accesses", &mut file) else {
-        return;
+fn main(rt: HostRuntime) -> Result<ExitCode, AllocError> {
+    let mut file = large(rt.alloc())?;
+    let Input::Bytes(n) = streams::read_file(&rt, b"accesses", &mut file) else {
+        return Ok(ExitCode::FAILURE);
     };
     let tally = replay_all(octets::part(&file, 0, n));
     let mut out = [0u8; 128];
     let to = tally.put(&mut out, Cursor::At(0), b"");
-    if !io::write_all(STDOUT_FILENO, octets::part(&out, 0, text::filled(&out, to))) {
-        os::fail(b"test_accesses: cannot write standard output");
+    match rt.write_all(octets::part(&out, 0, text::filled(&out, to))) {
+        Ok(()) => Ok(ExitCode::SUCCESS),
+        Err(why) => {
+            let _ = eprintln!(rt; "test_accesses: cannot write standard output: {why}");
+            Ok(ExitCode::FAILURE)
+        }
     }
 }

@@ -6,8 +6,8 @@ use answer::{Group, Refusal};
 use field::{
     DefaultVal, DefinedArg, DefinedDefault, DefinedGen, DefinedRepr, Field, NewField, Span,
 };
-use libc::STDOUT_FILENO;
 use number::Bits;
+use std::io;
 use types::{Arg, BuiltinTypes, TypeNamed};
 
 // Which of the two groups asked for here a refusal is in: type 1, field 2, and 99 for any other.
@@ -179,22 +179,21 @@ fn byte_defaults() -> bool {
         & (on_slice(DefaultVal::Bool(false), false) == 5)
 }
 
-fn print(part: &[u8], ok: bool) {
-    io::write_all(STDOUT_FILENO, part);
+fn print(rt: &impl Print, part: &str, ok: bool) -> io::Result<()> {
     if ok {
-        io::write_all(STDOUT_FILENO, b" right\n");
+        println!(rt; "{part} right")
     } else {
-        io::write_all(STDOUT_FILENO, b" wrong\n");
+        println!(rt; "{part} wrong")
     }
 }
 
-fn main() {
-    print(b"numbers by name", numbers_by_name());
-    print(b"others by name", others_by_name());
-    print(b"no names", no_names());
-    print(b"names back", names_back());
-    print(b"widths", widths());
-    print(b"kinds", kinds());
-    print(b"defaults", defaults());
-    print(b"byte defaults", byte_defaults());
+fn main(rt: HostRuntime) -> io::Result<()> {
+    print(&rt, "numbers by name", numbers_by_name())?;
+    print(&rt, "others by name", others_by_name())?;
+    print(&rt, "no names", no_names())?;
+    print(&rt, "names back", names_back())?;
+    print(&rt, "widths", widths())?;
+    print(&rt, "kinds", kinds())?;
+    print(&rt, "defaults", defaults())?;
+    print(&rt, "byte defaults", byte_defaults())
 }

@@ -8,8 +8,8 @@ use answer::{Group, Refusal};
 use blocks::nodes::Node;
 use bounds::{Bound, CondBounds, Emptiness, FirstLast, Intersection};
 use expr::{Length, MaybeNumber, UsableAlgExpr};
-use libc::STDOUT_FILENO;
 use number::Bytes;
+use std::io;
 use tree::Usable;
 
 const MOST: u64 = u64::MAX;
@@ -312,29 +312,28 @@ fn numbers() -> bool {
         & holds_none(Bound::Excluded(MOST), Bound::Unbounded)
 }
 
-fn print(part: &[u8], ok: bool) {
-    io::write_all(STDOUT_FILENO, part);
+fn print(rt: &impl Print, part: &str, ok: bool) -> io::Result<()> {
     if ok {
-        io::write_all(STDOUT_FILENO, b" right\n");
+        println!(rt; "{part} right")
     } else {
-        io::write_all(STDOUT_FILENO, b" wrong\n");
+        println!(rt; "{part} wrong")
     }
 }
 
-fn main() {
-    print(b"forward", forward());
-    print(b"passed", passed());
-    print(b"back", back());
-    print(b"no way back", no_way_back());
-    print(b"multiplier zero", multiplier_zero());
-    print(b"two operators", two_operators());
-    print(b"one operator", one_operator());
-    print(b"no forms", no_forms());
-    print(b"clipped", clipped());
-    print(b"empty", empty());
-    print(b"not empty", not_empty());
-    print(b"starts", starts());
-    print(b"ends", ends());
-    print(b"excluded starts", excluded_starts());
-    print(b"numbers", numbers());
+fn main(rt: HostRuntime) -> io::Result<()> {
+    print(&rt, "forward", forward())?;
+    print(&rt, "passed", passed())?;
+    print(&rt, "back", back())?;
+    print(&rt, "no way back", no_way_back())?;
+    print(&rt, "multiplier zero", multiplier_zero())?;
+    print(&rt, "two operators", two_operators())?;
+    print(&rt, "one operator", one_operator())?;
+    print(&rt, "no forms", no_forms())?;
+    print(&rt, "clipped", clipped())?;
+    print(&rt, "empty", empty())?;
+    print(&rt, "not empty", not_empty())?;
+    print(&rt, "starts", starts())?;
+    print(&rt, "ends", ends())?;
+    print(&rt, "excluded starts", excluded_starts())?;
+    print(&rt, "numbers", numbers())
 }

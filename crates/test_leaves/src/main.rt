@@ -4,8 +4,8 @@
 
 use answer::{Group, Refusal, SheetFault};
 use bits::{BitPos, BytesWrite, EndPos};
-use libc::STDOUT_FILENO;
 use number::{Bits, ByteVal, Bytes, InBits, MaxValue};
+use std::io;
 
 fn is_sheet(group: Group) -> bool {
     match group {
@@ -150,24 +150,23 @@ fn spans() -> bool {
         & (copied(6, 3) == 1)
 }
 
-fn print(part: &[u8], ok: bool) {
-    io::write_all(STDOUT_FILENO, part);
+fn print(rt: &impl Print, part: &str, ok: bool) -> io::Result<()> {
     if ok {
-        io::write_all(STDOUT_FILENO, b" right\n");
+        println!(rt; "{part} right")
     } else {
-        io::write_all(STDOUT_FILENO, b" wrong\n");
+        println!(rt; "{part} wrong")
     }
 }
 
-fn main() {
-    print(b"refusals", refusals());
-    print(b"reads", reads());
-    print(b"ranges", ranges());
-    print(b"blocks", checks());
-    print(b"limits", limits());
-    print(b"counts", counts());
-    print(b"numbers", numbers());
-    print(b"ends", ends());
-    print(b"widths", widths());
-    print(b"spans", spans());
+fn main(rt: HostRuntime) -> io::Result<()> {
+    print(&rt, "refusals", refusals())?;
+    print(&rt, "reads", reads())?;
+    print(&rt, "ranges", ranges())?;
+    print(&rt, "blocks", checks())?;
+    print(&rt, "limits", limits())?;
+    print(&rt, "counts", counts())?;
+    print(&rt, "numbers", numbers())?;
+    print(&rt, "ends", ends())?;
+    print(&rt, "widths", widths())?;
+    print(&rt, "spans", spans())
 }

@@ -5,10 +5,11 @@
 use bits::{BitPos, EndPos};
 use bounds::{Bound, CondBounds, Emptiness, Intersection};
 use expr::{Length, MaybeNumber, UsableAlgExpr};
-use libc::STDOUT_FILENO;
 use number::{Bits, ByteVal, Bytes, MaxValue};
 use octets::{be64, byte_at, part, same_bytes};
 use packed::{Tally, two};
+use std::alloc::{AllocError, Global};
+use std::process::ExitCode;
 use streams::Input;
 use text::Cursor;
 use types::{BuiltinTypes, TypeNamed};
@@ -38,7 +39,7 @@ fn is_printed(s: &[u8], expected: &[u8]) -> bool {
 
 // Whether the sheet of so many bytes that a packed text stands for is printed so.
 fn is_right(packed_sheet: &[u8], len: usize, expected: &[u8]) -> bool {
-    let mut sheet = io::large_buffer();
+    let mut sheet = [0u8; 65536];
     let whole = packed::unpack(packed_sheet, 0, &mut sheet) <= len;
     whole & is_printed(part(&sheet, 0, len), expected)
 }
@@ -292,24 +293,28 @@ fn replay_alone(file: &[u8]) -> Tally {
 }
 
 // Room for a file.
-fn large() -> [u8; 1048576] {
-    [0; 1048576]
+fn large(alloc: Global) -> Result<Vec<u8>, AllocError> {
+    vec![in alloc; 0; 1048576]
 }
 
-fn main() {
-    let mut file = large();
-    let Input::Bytes(n) = streams::read_file(b"answers", &mut file) else {
-        return;
+fn main(rt: HostRuntime) -> Result<ExitCode, AllocError> {
+    let mut file = large(rt.alloc())?;
+    let Input::Bytes(n) = streams::read_file(&rt, b"answers", &mut file) else {
+        return Ok(ExitCode::FAILURE);
     };
     let answers = replay_answers(part(&file, 0, n));
-    let Input::Bytes(n) = streams::read_file(b"alone", &mut file) else {
-        return;
+    let Input::Bytes(n) = streams::read_file(&rt, b"alone", &mut file) else {
+        return Ok(ExitCode::FAILURE);
     };
     let alone = replay_alone(part(&file, 0, n));
     let mut out = [0u8; 256];
     let to = answers.put(&mut out, Cursor::At(0), b"answers: ");
     let to = alone.put(&mut out, to, b"alone: ");
-    if !io::write_all(STDOUT_FILENO, part(&out, 0, text::filled(&out, to))) {
-        os::fail(b"test_replay: cannot write standard output");
+    match rt.write_all(part(&out, 0, text::filled(&out, to))) {
+        Ok(()) => Ok(ExitCode::SUCCESS),
+        Err(why) => {
+            let _ = eprintln!(rt; "test_replay: cannot write standard output: {why}");
+            Ok(ExitCode::FAILURE)
+        }
     }
 }

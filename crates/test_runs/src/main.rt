@@ -6,8 +6,8 @@
 ghost use Rattle.std.specs.Prelude.{◌≤◌};
 
 use bits::{BitPos, NumberRead, NumberWrite};
-use libc::STDOUT_FILENO;
 use number::{Bits, Bytes};
+use std::io;
 
 fn one(ok: bool) -> u64
     ensures { result ≤ 1 }
@@ -205,8 +205,7 @@ fn ends() -> u64
         + write_once(Lent { n: 0, h: u64::MAX }, 2, u64::MAX, 1, 1, 3)
 }
 
-fn main() {
+fn main(rt: HostRuntime) -> io::Result<()> {
     let right = reads() + ends() + lengths(0x00) + lengths(0xff) + lengths(0x5a);
-    io::print_decimal(STDOUT_FILENO, right);
-    io::write_all(STDOUT_FILENO, b" right\n");
+    println!(rt; "{right} right")
 }

@@ -9,10 +9,11 @@ use definition::{EntryAt, FieldWithStart};
 use expr::{Length, UsableAlgExpr};
 use field::{DefaultVal, Field, NewField};
 use header::{FieldIndex, Header, NewHeader};
-use libc::STDOUT_FILENO;
 use packed::Tally;
 use sheet::SlotBlock;
 use slots::LengthField;
+use std::alloc::{AllocError, Global};
+use std::process::ExitCode;
 use streams::Input;
 use text::Cursor;
 
@@ -76,10 +77,8 @@ impl Reading {
 
     fn bytes(self, facts: &[u8], part: &[u8]) -> Reading {
         let mut r = self;
-        let mut i = 0;
-        while i < part.len() {
-            r = r.byte(facts, part[i]);
-            i += 1;
+        for b in part {
+            r = r.byte(facts, *b);
         }
         r
     }
@@ -276,26 +275,22 @@ fn of_sheet(s: &[u8], facts: &[u8]) -> Reading {
 const FILLING: u8 = 165;
 
 // Room for the longest header, and 16 bytes more.
-fn large_filling() -> [u8; 4194319] {
-    [FILLING; 4194319]
+fn large_filling(alloc: Global) -> Result<Vec<u8>, AllocError> {
+    vec![in alloc; FILLING; 4194319]
 }
 
 // Whether each byte from there on is the filling.
 fn is_filling(buf: &[u8], from: usize) -> bool {
     let mut ok = true;
-    let mut i = from;
-    while i < buf.len() {
-        ok = ok & (buf[i] == FILLING);
-        i += 1;
+    for b in octets::part(buf, from, buf.len()) {
+        ok = ok & (*b == FILLING);
     }
     ok
 }
 
 fn fill_again(buf: &mut [u8]) {
-    let mut i = 0;
-    while i < buf.len() {
-        buf[i] = FILLING;
-        i += 1;
+    for b in buf.iter_mut() {
+        *b = FILLING;
     }
 }
 
@@ -304,7 +299,7 @@ const PIECE: usize = 65536;
 
 // Whether a piece of a text is what is packed.
 fn is_piece(text: &[u8], packed: &[u8], first: usize) -> bool {
-    let mut piece = io::large_buffer();
+    let mut piece = [0u8; 65536];
     let end = packed::unpack(packed, first, &mut piece);
     let had = octets::part(octets::part(text, first, text.len()), 0, PIECE);
     (end <= text.len()) & octets::same_bytes(had, octets::part(&piece, 0, had.len()))
@@ -516,7 +511,7 @@ fn is_expected(s: &[u8], head: &[u8], facts: &[u8], buf: &mut [u8]) -> bool {
 
 // One record: its head, the packed sheet, the facts.
 fn replay_one(head: &[u8], packed: &[u8], facts: &[u8], buf: &mut [u8]) -> bool {
-    let mut sheet = io::large_buffer();
+    let mut sheet = [0u8; 65536];
     let len = packed::two(head, 2);
     let whole = packed::unpack(packed, 0, &mut sheet) <= len;
     whole & is_expected(octets::part(&sheet, 0, len), head, facts, buf)
@@ -546,20 +541,24 @@ fn replay_all(file: &[u8], buf: &mut [u8]) -> Tally {
 }
 
 // Room for the file, and to spare.
-fn large() -> [u8; 2097152] {
-    [0; 2097152]
+fn large(alloc: Global) -> Result<Vec<u8>, AllocError> {
+    vec![in alloc; 0; 2097152]
 }
 
-fn main() {
-    let mut file = large();
-    let Input::Bytes(n) = streams::read_file(b"sheets", &mut file) else {
-        return;
+fn main(rt: HostRuntime) -> Result<ExitCode, AllocError> {
+    let mut file = large(rt.alloc())?;
+    let Input::Bytes(n) = streams::read_file(&rt, b"sheets", &mut file) else {
+        return Ok(ExitCode::FAILURE);
     };
-    let mut buf = large_filling();
+    let mut buf = large_filling(rt.alloc())?;
     let tally = replay_all(octets::part(&file, 0, n), &mut buf);
     let mut out = [0u8; 128];
     let to = tally.put(&mut out, Cursor::At(0), b"");
-    if !io::write_all(STDOUT_FILENO, octets::part(&out, 0, text::filled(&out, to))) {
-        os::fail(b"test_stored: cannot write standard output");
+    match rt.write_all(octets::part(&out, 0, text::filled(&out, to))) {
+        Ok(()) => Ok(ExitCode::SUCCESS),
+        Err(why) => {
+            let _ = eprintln!(rt; "test_stored: cannot write standard output: {why}");
+            Ok(ExitCode::FAILURE)
+        }
     }
 }
