@@ -4,8 +4,8 @@
     python3 tools/lister_inputs COUNT [SEED [PROGRAM]]  as told
     python3 tools/lister_inputs --check                 tests the program itself
 
-PROGRAM is target/bin/lister of the repository if it is not told. The inputs are
-those of inputs.py. Of each run this has to hold:
+PROGRAM is the lister that rt built in the repository if it is not told. The inputs
+are those of inputs.py. Of each run this has to hold:
 
     it ends with status 0, in a minute at most;
     it prints a listing, or one line `refused GROUP NUMBER PLACE` (shapes.py);
@@ -29,7 +29,7 @@ from input_tests import check
 from runs import hold_all
 
 # Count, seed and program, as far as they are not told.
-USUAL = ("100000", "1", HOME / "target" / "bin" / "lister")
+USUAL = ("100000", "1", HOME / "crates" / "lister" / "out" / "lister")
 
 
 def main(arguments):

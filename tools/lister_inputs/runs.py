@@ -10,7 +10,6 @@ from pathlib import Path
 
 from inputs import inputs
 from listing import listing
-from program import command
 from shapes import fault_of, label
 
 AT_A_TIME = 2
@@ -43,6 +42,7 @@ def hold_input(words, sheet):
 
 def stop(home, index, sheet, fault):
     failed = home / "target" / "failed_input"
+    failed.parent.mkdir(exist_ok=True)
     failed.write_bytes(sheet)
     sys.exit(f"input {index}, now in {failed}: {fault}")
 
@@ -65,8 +65,8 @@ def hold_inputs(home, words, count, seed):
 def hold_all(home, program, count, seed):
     """Holds the program to the rules on so many inputs, and tells what they were."""
     if not Path(program).is_file():
-        sys.exit(f"there is no program {program}")
-    words = command(Path(program).resolve())
+        sys.exit(f"there is no program {program}; tools/run_program lister builds it")
+    words = [Path(program).resolve()]
     counts = hold_inputs(home, words, count, seed)
     print(f"{counts.total()} inputs of seed {seed} hold")
     for what, times in sorted(counts.items()):

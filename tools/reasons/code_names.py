@@ -13,7 +13,7 @@ def cases_of(enum, source):
 
 def group_comments(groups, source):
     """Of each group the comment above its enum."""
-    found = {group: re.search(rf"\n// (.+\.)\npub enum {fault(group)} {{\n", source) for group in groups}
+    found = {group: re.search(rf"\n// (.+\.)\n(?:#\[.*\]\n)*pub enum {fault(group)} {{\n", source) for group in groups}
     for group, comment in found.items():
         if not comment:
             raise Wrong(f"crates/answer/src/lib.rt has no enum {fault(group)} with a comment above it")
@@ -28,8 +28,8 @@ def numbers_in(definition, enum, paper):
 
 def reason_numbers(group, reasons, paper):
     """The numbers of a group's cases. A group of one case has no definition of its own."""
-    found = numbers_in(f"{group}Number", fault(group), paper)
-    alone = re.search(rf"\nnumberOf \(Refusal\.{group.capitalize()} .*\) = ([0-9]+)\n", paper)
+    found = numbers_in(f"{group}_number", fault(group), paper)
+    alone = re.search(rf"\nnumber_of \(Refusal\.{group.capitalize()} .*\) = ([0-9]+)\n", paper)
     return [f"{reasons[0].name} = {alone[1]}"] if alone and not found else found
 
 
@@ -38,7 +38,7 @@ def differences(groups, source, paper):
     names = [group.capitalize() for group in groups]
     numbers = [f"{name} = {number}" for number, name in enumerate(names, 1)]
     yield from differs("the enum Group", cases_of("Group", source), names)
-    yield from differs("the numbers of Group", numbers_in("groupNumber", "Group", paper), numbers)
+    yield from differs("the numbers of Group", numbers_in("group_number", "Group", paper), numbers)
     for group, reasons in groups.items():
         yield from differs(f"the enum {fault(group)}", cases_of(fault(group), source),
                            [reason.name for reason in reasons])

@@ -11,9 +11,9 @@ ENUMS = ("\npub enum Group {\n    Sheet,\n    Room,\n}\n"
          "\npub enum SheetFault {\n    WrongLength,\n    SheetOver64Blocks,\n}\n"
          "\npub enum RoomFault {\n    NoRoom,\n}\n")
 
-PAPER = ("\ngroupNumber Group.Sheet = 1\ngroupNumber Group.Room = 2\n"
-         "\nsheetNumber SheetFault.WrongLength = 1\nsheetNumber SheetFault.SheetOver64Blocks = 3\n"
-         "\nnumberOf (Refusal.Room fault place) = 1\n")
+PAPER = ("\ngroup_number Group.Sheet = 1\ngroup_number Group.Room = 2\n"
+         "\nsheet_number SheetFault.WrongLength = 1\nsheet_number SheetFault.SheetOver64Blocks = 3\n"
+         "\nnumber_of (Refusal.Room fault place) = 1\n")
 
 # What is changed in the rows, so that they are no table.
 FAULTS = (("| | 3 |", "| | 1 |"), ("| | 3 |", "| | 0 |"), ("| | 3 |", "| | x |"),
@@ -26,7 +26,7 @@ FAULTS = (("| | 3 |", "| | 1 |"), ("| | 3 |", "| | 0 |"), ("| | 3 |", "| | x |")
 CHANGES = (("    Room,\n", ""), ("    WrongLength,\n    SheetOver64Blocks,\n", "    SheetOver64Blocks,\n"),
            ("    NoRoom,\n", "    Room,\n"), ("    NoRoom,\n", "    NoRoom,\n    Other,\n"),
            ("Group.Room = 2", "Group.Room = 3"), ("Blocks = 3", "Blocks = 2"), ("place) = 1", "place) = 2"),
-           ("\nsheetNumber SheetFault.WrongLength = 1", ""))
+           ("\nsheet_number SheetFault.WrongLength = 1", ""))
 
 
 def table(rows):
