@@ -9,7 +9,7 @@ rust/src/reasons.rs. What a group is about is told there by the comment above it
 enum in crates/answer/src/lib.rt.
 
 The check holds both texts to the table, byte for byte, and the table to the code: to
-the enums of crates/answer/src/lib.rt, and to the numbers that
+the enums of crates/answer/src/lib.rt with their numbers, and to those that
 crates/answer/specs/Paper.antt gives to their cases.
 """
 

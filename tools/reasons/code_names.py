@@ -6,9 +6,9 @@ from table import Wrong, fault
 
 
 def cases_of(enum, source):
-    """The cases of an enum, in order."""
-    found = re.search(rf"\npub enum {enum} {{\n((?:    \w+,\n)*)}}\n", source)
-    return re.findall(r"\w+", found[1]) if found else []
+    """The cases of an enum, each with its number, in order."""
+    found = re.search(rf"\npub enum {enum} {{\n((?:    \w+ = [0-9]+,\n)*)}}\n", source)
+    return re.findall(r"\w+ = [0-9]+", found[1]) if found else []
 
 
 def group_comments(groups, source):
@@ -35,15 +35,13 @@ def reason_numbers(group, reasons, paper):
 
 def differences(groups, source, paper):
     """Where the code and the table differ, a line for each enum and each definition of its numbers."""
-    names = [group.capitalize() for group in groups]
-    numbers = [f"{name} = {number}" for number, name in enumerate(names, 1)]
-    yield from differs("the enum Group", cases_of("Group", source), names)
+    numbers = [f"{group.capitalize()} = {number}" for number, group in enumerate(groups, 1)]
+    yield from differs("the enum Group", cases_of("Group", source), numbers)
     yield from differs("the numbers of Group", numbers_in("group_number", "Group", paper), numbers)
     for group, reasons in groups.items():
-        yield from differs(f"the enum {fault(group)}", cases_of(fault(group), source),
-                           [reason.name for reason in reasons])
-        yield from differs(f"the numbers of {fault(group)}", reason_numbers(group, reasons, paper),
-                           [f"{reason.name} = {reason.number}" for reason in reasons])
+        numbers = [f"{reason.name} = {reason.number}" for reason in reasons]
+        yield from differs(f"the enum {fault(group)}", cases_of(fault(group), source), numbers)
+        yield from differs(f"the numbers of {fault(group)}", reason_numbers(group, reasons, paper), numbers)
 
 
 def differs(what, in_code, in_table):

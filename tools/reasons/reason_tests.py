@@ -7,9 +7,9 @@ ROWS = ("| sheet | 1 | the bytes are none | `WrongLength` |\n"
         "| | 3 | the sheet is long | `SheetOver64Blocks` |\n"
         "| room | 1 | there is none | `NoRoom` |\n")
 
-ENUMS = ("\npub enum Group {\n    Sheet,\n    Room,\n}\n"
-         "\npub enum SheetFault {\n    WrongLength,\n    SheetOver64Blocks,\n}\n"
-         "\npub enum RoomFault {\n    NoRoom,\n}\n")
+ENUMS = ("\npub enum Group {\n    Sheet = 1,\n    Room = 2,\n}\n"
+         "\npub enum SheetFault {\n    WrongLength = 1,\n    SheetOver64Blocks = 3,\n}\n"
+         "\npub enum RoomFault {\n    NoRoom = 1,\n}\n")
 
 PAPER = ("\ngroup_number Group.Sheet = 1\ngroup_number Group.Room = 2\n"
          "\nsheet_number SheetFault.WrongLength = 1\nsheet_number SheetFault.SheetOver64Blocks = 3\n"
@@ -23,8 +23,9 @@ FAULTS = (("| | 3 |", "| | 1 |"), ("| | 3 |", "| | 0 |"), ("| | 3 |", "| | x |")
           ("there is", 'there "is"'), ("there is", "there */ is"), ("| there", "there"))
 
 # What is changed in the code, so that it is not the table's.
-CHANGES = (("    Room,\n", ""), ("    WrongLength,\n    SheetOver64Blocks,\n", "    SheetOver64Blocks,\n"),
-           ("    NoRoom,\n", "    Room,\n"), ("    NoRoom,\n", "    NoRoom,\n    Other,\n"),
+CHANGES = (("    Room = 2,\n", ""), ("    WrongLength = 1,\n", ""),
+           ("    NoRoom = 1,\n", "    Room = 1,\n"), ("    NoRoom = 1,\n", "    NoRoom = 1,\n    Other = 2,\n"),
+           ("    SheetOver64Blocks = 3,\n", "    SheetOver64Blocks = 2,\n"), ("    NoRoom = 1,\n", "    NoRoom,\n"),
            ("Group.Room = 2", "Group.Room = 3"), ("Blocks = 3", "Blocks = 2"), ("place) = 1", "place) = 2"),
            ("\nsheet_number SheetFault.WrongLength = 1", ""))
 

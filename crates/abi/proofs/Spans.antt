@@ -1,5 +1,6 @@
 -- Where the record of a field says that its name and the bytes of its default stand in the sheet, there they stand: `name-told`, `default-told`. A part of a block is that part of
 -- the sheet, as many bytes further on as the block stands. Assumes nothing.
+use Rattle.std.specs.Prelude.{Some, None}
 use mathlib.Core.Path.{◌≡◌, refl, sym, ap, ◌∙◌}
 use mathlib.Core.Bool.{Bool, true, false, cond}
 use mathlib.Core.List.{List}
@@ -21,7 +22,6 @@ use Rattle.types.specs.declared.BuiltinTypes.{BuiltinTypes}
 use Rattle.types.specs.Types.{is_slice}
 use Rattle.field.specs.declared.Span.{Span}
 use Rattle.field.specs.declared.DefaultVal.{DefaultVal}
-use Rattle.field.specs.declared.DefinedDefault.{DefinedDefault}
 use Rattle.field.specs.Fields.{no_bytes, default_of}
 use Rattle.field_blocks.specs.OnBlock.{default_in}
 use Rattle.field_blocks.specs.Step.{field_at}
@@ -96,7 +96,7 @@ begins b repr {span} = by_kind (eqb (stated_default_kind b) 0) (eqb (stated_defa
     inferred false e some = let never : ◌≡◌ {A = Bool} true false = cc in clash never
 
     by_kind : (absent number bytes : Bool)
-        → default_of repr (cond absent DefinedDefault.Absent (DefinedDefault.Given (cond number (DefaultVal.Num (stated_number b)) (cond bytes (DefaultVal.Bytes stated-span) (DefaultVal.Bool (eqb (stated_number b) 1)))) (eqb (stated_fixed b) 1)))
+        → default_of repr (cond absent None (Some ((cond number (DefaultVal.Num (stated_number b)) (cond bytes (DefaultVal.Bytes stated-span) (DefaultVal.Bool (eqb (stated_number b) 1)))), (eqb (stated_fixed b) 1))))
         ≡ DefaultVal.Bytes span → (span.len ≡ 0 → ⊥) → Begin
     by_kind true number bytes e some = inferred (is_slice repr) e some
     by_kind false true bytes e some = let never : ◌≡◌ {A = Bool} true false = cc in clash never

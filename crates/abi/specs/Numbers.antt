@@ -1,6 +1,6 @@
 -- What the boundary tells, in numbers, and what it takes numbers for. Each list of numbers is a struct of include/pktfmt.h, member by member. Assumes nothing.
 use Rattle.std.specs.Prelude.{true, false, cond, ◌&&◌, List, [], ◌∷◌, ◌++◌, ℕ, zero, suc, ◌+◌, ◌*◌, ◌/◌, eqb, length, get_or, replicate}
-use Rattle.std.proofs.Math.Option.{Option, none, some}
+use Rattle.std.specs.Prelude.{Option, None, Some}
 use Rattle.answer.specs.Walk.{or_zero}
 use Rattle.blocks.specs.Layout.{block_size, name_begins, stated_bytes_at}
 use Rattle.sheet.specs.Blocks.{field_count, cond_count}
@@ -57,21 +57,20 @@ locator_numbers p = p.index ∷ locator_header p ∷ first_bit p ∷ locator_wid
 -- stand for nothing
 unfoldable pub held_from : ℕ → ℕ → Option Held
 held_from held default =
-    cond (eqb held 0) (some (Held.Number default false)) (cond (eqb held 1) (some (Held.Number default true)) (cond (eqb held 2 && eqb default 0) (some Held.Bytes) none))
+    cond (eqb held 0) (Some (Held.Number default false)) (cond (eqb held 1) (Some (Held.Number default true)) (cond (eqb held 2 && eqb default 0) (Some Held.Bytes) None))
 
 abbrev pub locator_with : List ℕ → ℕ → Held → Locator
 locator_with l width held = record {
   index = get_or l 0 0;
   header = record { 0 = get_or l 1 0 };
-  start = record { global = record { 0 = get_or l 2 0 } };
-  width = record { 0 = width };
+  run = record { start = record { global = record { 0 = get_or l 2 0 } }; width = record { 0 = width } };
   held = held;
 }
 
 -- six numbers that stand for nothing held are taken for bytes of no bits, which no field has
 abbrev pub locator_if : Option Held → List ℕ → Locator
-locator_if (some held) l = locator_with l (get_or l 3 0) held
-locator_if none l = locator_with l 0 Held.Bytes
+locator_if (Some held) l = locator_with l (get_or l 3 0) held
+locator_if None l = locator_with l 0 Held.Bytes
 
 abbrev pub locator_from : List ℕ → Locator
 locator_from l = locator_if (held_from (get_or l 4 0) (get_or l 5 0)) l
@@ -110,8 +109,8 @@ no_fields = replicate 64 (zeros 14)
 
 -- the index of the field with a name; where there is none, the first that no field has
 abbrev pub index_or : ℕ → Option ℕ → ℕ
-index_or n (some i) = i
-index_or n none = n
+index_or n (Some i) = i
+index_or n None = n
 
 abbrev pub index_named : List ℕ → List ℕ → ℕ
 index_named s name = index_or (field_count s) (field_named s name)
@@ -157,8 +156,8 @@ no_lengths = replicate 3 (zeros 5)
 -- ---- a condition, in pairs: the index of its field and how many ranges it has; then the first and the last number of each. There is room for 24
 
 abbrev pub range_pair : Option (ℕ × ℕ) → List ℕ
-range_pair (some (first, last)) = first ∷ last ∷ []
-range_pair none = 0 ∷ 0 ∷ []
+range_pair (Some (first, last)) = first ∷ last ∷ []
+range_pair None = 0 ∷ 0 ∷ []
 
 abbrev pub cond_pair : List ℕ → CondEntry → ℕ → List ℕ
 cond_pair s e zero = e.field ∷ e.ranges ∷ []
@@ -171,8 +170,8 @@ abbrev pub no_pairs : List (List ℕ)
 no_pairs = replicate 25 (zeros 2)
 
 abbrev pub pairs_if : List ℕ → Option CondEntry → List (List ℕ)
-pairs_if s (some e) = entry_pairs s e
-pairs_if s none = no_pairs
+pairs_if s (Some e) = entry_pairs s e
+pairs_if s None = no_pairs
 
 -- of all conditions; there is room for 8
 abbrev pub cond_rows : List ℕ → List (List (List ℕ))
@@ -184,15 +183,15 @@ no_conds = replicate 8 no_pairs
 -- ---- forward and back by the number of a form and its two numbers, the first three of a length. Only numbers that are told of a form are taken for it
 
 abbrev pub form_if : ℕ → ℕ → Option UsableAlgExpr → Option UsableAlgExpr
-form_if first second (some e) = cond (eqb (first_in e) first && eqb (second_in e) second) (some e) none
-form_if first second none = none
+form_if first second (Some e) = cond (eqb (first_in e) first && eqb (second_in e) second) (Some e) None
+form_if first second None = None
 
 unfoldable pub form_from : List ℕ → Option UsableAlgExpr
 form_from l = form_if (get_or l 1 0) (get_or l 2 0) (form_of (get_or l 0 0) (get_or l 1 0) (get_or l 2 0))
 
 abbrev pub by_form : (UsableAlgExpr → ℕ → Option ℕ) → Option UsableAlgExpr → ℕ → Option ℕ
-by_form work (some e) x = work e x
-by_form work none x = none
+by_form work (Some e) x = work e x
+by_form work None x = None
 
 abbrev pub forward_by : List ℕ → ℕ → Option ℕ
 forward_by l x = by_form forward (form_from l) x

@@ -1,6 +1,6 @@
 -- How the boundary hands an answer out: whether there was no refusal, the answer in numbers, and the refusal in three. Assumes nothing.
 use Rattle.std.specs.Prelude.{◌≡◌, Bool, List, [], ◌∷◌, ◌++◌, ℕ, zero, suc, ◌-◌, replicate}
-use Rattle.std.proofs.Math.Option.{Option, none, some}
+use Rattle.std.specs.Prelude.{Option, None, Some}
 use Rattle.answer.specs.Paper.{Answer, gives, refused, is_given, group_number}
 use Rattle.answer.specs.Walk.{is_some}
 
@@ -24,6 +24,11 @@ abbrev pub told_or : {A X : Type 0} → X → (A → X) → Answer A → X
 told_or none_told numbers (gives a) = numbers a
 told_or none_told numbers (refused g n at) = none_told
 
+-- the same as an answer
+abbrev pub answer_in : {A X : Type 0} → (A → X) → Answer A → Answer X
+answer_in numbers (gives a) = gives (numbers a)
+answer_in numbers (refused g n at) = refused g n at
+
 -- and so it is told: x where an answer goes, and the refusal beside it
 pub record Told {A X : Type 0} (none_told : X) (numbers : A → X) (answer : Answer A) (x : X) (why why' : List ℕ) (r : Bool) : Type 0 where
   pub answered : Answered answer why why' r
@@ -32,8 +37,8 @@ pub record Told {A X : Type 0} (none_told : X) (numbers : A → X) (answer : Ans
 -- ---- a number where there is one, else 0
 
 abbrev pub number_or : Option ℕ → List ℕ
-number_or (some n) = n ∷ []
-number_or none = 0 ∷ []
+number_or (Some n) = n ∷ []
+number_or None = 0 ∷ []
 
 -- r says whether there is one, and b is what stands where it goes
 pub record Found (number : Option ℕ) (b : List ℕ) (r : Bool) : Type 0 where

@@ -5,16 +5,15 @@ ghost use Rattle.definition.specs.Unchecked.{cond_entry};
 ghost use Rattle.definition.specs.Definition.{Accepted};
 ghost use Rattle.abi.specs.Numbers.{range_pair, entry_pairs, pairs_if, cond_rows};
 
-use bounds::FirstLast;
-use definition::{CondEntry, EntryAt};
+use definition::CondEntry;
 
 // The first and the last number of range j of the entry in block i.
 fn range_pair(s: &[u8], i: usize, j: u8) -> [u64; 2]
     ensures { result ≡ range_pair (range_numbers s.now i j) }
 {
     match cond::range_numbers(s, i, j) {
-        FirstLast::Are(first, last) => [first, last],
-        FirstLast::None => [0, 0],
+        Some((first, last)) => [first, last],
+        None => [0, 0],
     }
 }
 
@@ -23,14 +22,10 @@ fn entry_pairs(s: &[u8], e: CondEntry) -> [[u64; 2]; 25]
     requires { e.ranges ≤ 24 }
     ensures { result ≡ entry_pairs s.now e }
 {
-    let at = e.block;
-    let n = e.ranges;
     let mut pairs = [[0; 2]; 25];
-    pairs[0] = [e.field as u64, n as u64];
-    let mut j: u8 = 0;
-    while j < n {
-        pairs[j as usize + 1] = range_pair(s, at, j);
-        j += 1;
+    pairs[0] = [e.field as u64, e.ranges as u64];
+    for j in 0..e.ranges {
+        pairs[j as usize + 1] = range_pair(s, e.block, j);
     }
     pairs
 }
@@ -41,8 +36,8 @@ fn condition(s: &[u8], k: usize) -> [[u64; 2]; 25]
     ensures { result ≡ pairs_if s.now (cond_entry s.now k) }
 {
     match definition::unchecked_cond_entry(s, k) {
-        EntryAt::At(e) => entry_pairs(s, e),
-        EntryAt::None => [[0; 2]; 25],
+        Some(e) => entry_pairs(s, e),
+        None => [[0; 2]; 25],
     }
 }
 
@@ -51,12 +46,8 @@ pub(crate) fn tell_conditions(s: &[u8], conditions: &mut [[[u64; 2]; 25]; 8])
     requires { Accepted s.now }
     ensures { conditions.new ≡ cond_rows s.now }
 {
-    let none = [[[0; 2]; 25]; 8];
-    *conditions = none;
-    let n = sheet::block_counts(s).conds;
-    let mut k = 0;
-    while k < n {
+    *conditions = [[[0; 2]; 25]; 8];
+    for k in 0..sheet::block_counts(s).conds {
         conditions[k] = condition(s, k);
-        k += 1;
     }
 }

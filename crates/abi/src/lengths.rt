@@ -1,38 +1,33 @@
 // Lengths in five numbers, and their forms back.
-ghost use Rattle.std.specs.Prelude.{◌≡◌, [], ◌∷◌};
+ghost use Rattle.std.specs.Prelude.{◌≡◌, Some};
 ghost use Rattle.answer.specs.Walk.{or_zero};
 ghost use Rattle.header.specs.Names.{name_at, field_named};
-ghost use Rattle.expr.specs.Forms.{maybe_number_says, length_says};
-ghost use Rattle.tree.specs.Tree.{usable_says};
-ghost use Rattle.abi.specs.Numbers.{expr_numbers, form_numbers, slot_field_number, slot_numbers, length_rows, form_if, form_from};
+ghost use Rattle.abi.specs.Numbers.{expr_numbers, form_numbers, slot_field_number, slot_numbers, length_rows, form_if, form_from, forward_by, back_by};
 
-use expr::{Length, MaybeNumber, UsableAlgExpr};
-use header::FieldIndex;
+use expr::UsableAlgExpr;
+use number::Bytes;
 use slots::LengthField;
-use tree::Usable;
 
-// What a slot holds, and its two numbers.
-#[derive(Clone, Copy)]
-struct Form(u64, u64, u64);
-
-fn expr_form(e: UsableAlgExpr) -> Form
-    ensures { (result.0 ∷ result.1 ∷ result.2 ∷ []) ≡ expr_numbers e }
+// A form, and its two numbers.
+fn expr_form(e: UsableAlgExpr) -> [u64; 3]
+    ensures { result ≡ expr_numbers e }
 {
     match e {
-        UsableAlgExpr::IdentOnly => Form(1, 0, 0),
-        UsableAlgExpr::SimpleAdd(a) => Form(2, a, 0),
-        UsableAlgExpr::SimpleMult(m) => Form(3, m, 0),
-        UsableAlgExpr::AddMult(a, m) => Form(4, a, m),
-        UsableAlgExpr::MultAdd(m, a) => Form(5, m, a),
+        UsableAlgExpr::IdentOnly => [1, 0, 0],
+        UsableAlgExpr::SimpleAdd(a) => [2, a, 0],
+        UsableAlgExpr::SimpleMult(m) => [3, m, 0],
+        UsableAlgExpr::AddMult(a, m) => [4, a, m],
+        UsableAlgExpr::MultAdd(m, a) => [5, m, a],
     }
 }
 
-fn slot_form(held: LengthField) -> Form
-    ensures { (result.0 ∷ result.1 ∷ result.2 ∷ []) ≡ form_numbers held }
+// What a slot holds, and its two numbers.
+fn slot_form(held: LengthField) -> [u64; 3]
+    ensures { result ≡ form_numbers held }
 {
     match held {
-        LengthField::Absent => Form(6, 0, 0),
-        LengthField::Undefined => Form(0, 0, 0),
+        LengthField::Absent => [6, 0, 0],
+        LengthField::Undefined => [0, 0, 0],
         LengthField::Expr(e) => expr_form(e),
     }
 }
@@ -41,10 +36,7 @@ fn slot_form(held: LengthField) -> Form
 fn named_field(sheet: &[u8], i: usize) -> u64
     ensures { result ≡ or_zero (field_named sheet.now (name_at sheet.now i)) }
 {
-    match header::unchecked_field_named(sheet, blocks::name(sheet::block(sheet, i))) {
-        FieldIndex::At(k) => k as u64,
-        FieldIndex::None => 0,
-    }
+    header::unchecked_field_named(sheet, blocks::name(sheet::block(sheet, i))).unwrap_or(0) as u64
 }
 
 // The field of what a slot holds, from block i; 0 where it holds no expression.
@@ -52,41 +44,21 @@ fn slot_field(sheet: &[u8], i: usize, held: LengthField) -> u64
     ensures { result ≡ slot_field_number sheet.now i held }
 {
     match held {
-        LengthField::Absent => 0,
-        LengthField::Undefined => 0,
+        LengthField::Absent | LengthField::Undefined => 0,
         LengthField::Expr(_) => named_field(sheet, i),
     }
 }
 
-pub(crate) fn in_value(length: Length) -> MaybeNumber
-    ensures { maybe_number_says result ≡ length_says length }
-{
-    match length {
-        Length::Is(n) => MaybeNumber::Is(n.0),
-        Length::None => MaybeNumber::None,
-    }
-}
-
-fn or_zero(v: MaybeNumber) -> u64
-    ensures { result ≡ or_zero (maybe_number_says v) }
-{
-    match v {
-        MaybeNumber::Is(n) => n,
-        MaybeNumber::None => 0,
-    }
-}
-
 // The five numbers of a length slot.
+#[tactic(auto, unfolding(crate::specs::Numbers::slot_numbers))]
 fn slot_numbers(sheet: &[u8], slot: u8) -> [u64; 5]
     ensures { result ≡ slot_numbers sheet.now slot }
 {
     let says = definition::unchecked_length_slot(sheet, slot);
-    let held = says.held;
-    let largest = says.largest;
-    let form = slot_form(held);
-    let field = slot_field(sheet, says.at, held);
-    let most = or_zero(in_value(largest));
-    [form.0, form.1, form.2, field, most]
+    let [form, first, second] = slot_form(says.held);
+    let field = slot_field(sheet, says.at, says.held);
+    let most = says.largest.map_or(0, |n| n.0);
+    [form, first, second, field, most]
 }
 
 // Those of all three.
@@ -96,35 +68,41 @@ pub(crate) fn tell_lengths(sheet: &[u8], lengths: &mut [[u64; 5]; 3])
     let header = slot_numbers(sheet, 0);
     let payload = slot_numbers(sheet, 1);
     let packet = slot_numbers(sheet, 2);
-    let all = [header, payload, packet];
-    *lengths = all;
+    *lengths = [header, payload, packet];
 }
 
 // The form that was found of two numbers, where they are its own.
-fn if_its_own(found: Usable, first: u64, second: u64) -> Usable
-    ensures { usable_says result ≡ form_if first second (usable_says found) }
+fn if_its_own(e: UsableAlgExpr, first: u64, second: u64) -> Option<UsableAlgExpr>
+    ensures { result ≡ form_if first second (Some e) }
 {
-    match found {
-        Usable::Expr(e) => {
-            let form = expr_form(e);
-            if (form.1 == first) & (form.2 == second) {
-                return Usable::Expr(e);
-            }
-            Usable::None
-        }
-        Usable::None => Usable::None,
+    let [_, own_first, own_second] = expr_form(e);
+    if own_first == first && own_second == second {
+        return Some(e);
     }
+    None
 }
 
 // The form that the first three numbers of a length tell; none where they tell of no form.
-pub(crate) fn form_from(length: &[u64; 5]) -> Usable
-    ensures { usable_says result ≡ form_from length.now }
+#[tactic(auto, unfolding(crate::specs::Numbers::form_from, expr::specs::Forms::form_of))]
+fn form_from(length: &[u64; 5]) -> Option<UsableAlgExpr>
+    ensures { result ≡ form_from length.now }
 {
-    let code = length[0];
-    let first = length[1];
-    let second = length[2];
+    let [code, first, second, _, _] = *length;
     if 5 < code {
-        return Usable::None;
+        return None;
     }
-    if_its_own(Usable::of_form(code as u8, first, second), first, second)
+    if_its_own(tree::of_form(code as u8, first, second)?, first, second)
+}
+
+// The length of a value by that form, and the value whose length this is.
+pub(crate) fn forward(length: &[u64; 5], x: u64) -> Option<u64>
+    ensures { result ≡ forward_by length.now x }
+{
+    Some(form_from(length)?.exec(x)?.0)
+}
+
+pub(crate) fn back(length: &[u64; 5], y: u64) -> Option<u64>
+    ensures { result ≡ back_by length.now y }
+{
+    form_from(length)?.reverse_exec(Bytes(y))
 }

@@ -3,21 +3,18 @@
 #![tactic(auto)]
 
 ghost use Rattle.std.specs.Prelude.{◌≡◌, true, false, length};
+ghost use Rattle.answer.specs.Paper.{says};
 ghost use Rattle.layout.specs.Access.{number as a_number, bytes as some_bytes, write};
 ghost use Rattle.locator.specs.Locator.{reach_at, write_check_at, read_at, apply_at};
 ghost use Rattle.definition.specs.Definition.{definition_check, defined_header};
 ghost use Rattle.template.specs.Template.{template_check};
 ghost use Rattle.access.specs.Access.{locator_in, locator_of, sheet_reach, sheet_read, sheet_write_check, sheet_apply};
-ghost use Rattle.abi.specs.Told.{zeros, Answered, told_or, Told, Found};
+ghost use Rattle.abi.specs.Told.{zeros, Answered, told_or, Told, answer_in, Found};
 ghost use Rattle.abi.specs.Numbers.{version, header_numbers, template_after, locator_from, field_numbers, no_fields, field_rows, index_named, value_numbers, span_numbers, no_lengths, length_rows, no_conds, cond_rows, forward_by, back_by};
 ghost use Rattle.abi.specs.Listed.{ListedFront};
 
-use access::LocatorAnswer;
-use answer::Verdict;
-use bits::NumberSeen;
-use header::{Header, NewHeader};
-use number::Bytes;
-use tree::Usable;
+use answer::Refusal;
+use header::Header;
 
 mod conditions;
 mod lengths;
@@ -42,9 +39,15 @@ pub extern "C" fn pktfmt_version() -> u64
 fn header_numbers(sheet: &[u8], h: Header) -> [u64; 3]
     ensures { result ≡ header_numbers sheet.now h }
 {
-    let len = h.len;
     let conds = sheet::block_counts(sheet).conds;
-    [len.0, h.fields as u64, conds as u64]
+    [h.len.0, h.fields as u64, conds as u64]
+}
+
+// Those of the header that was given, or the refusal.
+fn header_told(sheet: &[u8], checked: Result<Header, Refusal>) -> Result<[u64; 3], Refusal>
+    ensures { says result ≡ answer_in (header_numbers sheet.now) (says checked) }
+{
+    Ok(header_numbers(sheet, checked?))
 }
 
 // Steps 1 to 5: the header.
@@ -52,16 +55,11 @@ fn header_numbers(sheet: &[u8], h: Header) -> [u64; 3]
 pub extern "C" fn pktfmt_check(sheet: &[u8], header: &mut [u64; 3], refusal: &mut [u64; 3]) -> bool
     ensures { Told (zeros 3) (header_numbers sheet.now) (defined_header sheet.now) header.new refusal.old refusal.new result }
 {
-    match definition::checked_header(sheet) {
-        NewHeader::Is(h) => {
-            *header = header_numbers(sheet, h);
-            true
-        }
-        NewHeader::Refused(reason) => {
-            *header = [0; 3];
-            told::tell_refusal(refusal, reason)
-        }
-    }
+    told::tell(
+        header,
+        refusal,
+        header_told(sheet, definition::checked_header(sheet)),
+    )
 }
 
 // The record of field i, or access 1.
@@ -74,16 +72,7 @@ pub extern "C" fn pktfmt_field_by_index(
 ) -> bool
     ensures { Told (zeros 14) (field_numbers sheet.now) (locator_in sheet.now i) field.new refusal.old refusal.new result }
 {
-    match access::locate(sheet, i) {
-        LocatorAnswer::Is(p) => {
-            *field = records::field_record(sheet, p);
-            true
-        }
-        LocatorAnswer::Refused(reason) => {
-            *field = [0; 14];
-            told::tell_refusal(refusal, reason)
-        }
-    }
+    told::tell(field, refusal, records::record_by_index(sheet, i))
 }
 
 // The record of the field with a name, or access 1.
@@ -110,19 +99,12 @@ pub extern "C" fn pktfmt_fields(
     ensures told { Told (zeros 3) (header_numbers sheet.now) (defined_header sheet.now) header.new refusal.old refusal.new result }
     ensures fields_after { fields.new ≡ told_or no_fields (λ _. field_rows sheet.now) (defined_header sheet.now) }
 {
-    match definition::checked_header(sheet) {
-        NewHeader::Is(h) => {
-            *header = header_numbers(sheet, h);
-            records::tell_fields(sheet, h, fields);
-            true
-        }
-        NewHeader::Refused(reason) => {
-            *header = [0; 3];
-            let none = [[0; 14]; 64];
-            *fields = none;
-            told::tell_refusal(refusal, reason)
-        }
+    let checked = definition::checked_header(sheet);
+    match checked {
+        Ok(h) => records::tell_fields(sheet, h, fields),
+        Err(_) => *fields = [[0; 14]; 64],
     }
+    told::tell(header, refusal, header_told(sheet, checked))
 }
 
 // The three length slots.
@@ -135,13 +117,12 @@ pub extern "C" fn pktfmt_lengths(
     ensures { Told no_lengths (λ _. length_rows sheet.now) (definition_check sheet.now) lengths.new refusal.old refusal.new result }
 {
     match definition::check(sheet) {
-        Verdict::Accepted => {
+        Ok(()) => {
             lengths::tell_lengths(sheet, lengths);
             true
         }
-        Verdict::Refused(reason) => {
-            let none = [[0; 5]; 3];
-            *lengths = none;
+        Err(reason) => {
+            *lengths = [[0; 5]; 3];
             told::tell_refusal(refusal, reason)
         }
     }
@@ -157,13 +138,12 @@ pub extern "C" fn pktfmt_conditions(
     ensures { Told no_conds (λ _. cond_rows sheet.now) (definition_check sheet.now) conditions.new refusal.old refusal.new result }
 {
     match definition::check(sheet) {
-        Verdict::Accepted => {
+        Ok(()) => {
             conditions::tell_conditions(sheet, conditions);
             true
         }
-        Verdict::Refused(reason) => {
-            let none = [[[0; 2]; 25]; 8];
-            *conditions = none;
+        Err(reason) => {
+            *conditions = [[[0; 2]; 25]; 8];
             told::tell_refusal(refusal, reason)
         }
     }
@@ -175,8 +155,7 @@ pub extern "C" fn pktfmt_template(sheet: &[u8], buf: &mut [u8], refusal: &mut [u
     ensures answered { Answered (template_check sheet.now (length buf.old)) refusal.old refusal.new result }
     ensures buf_after { buf.new ≡ template_after sheet.now buf.old }
 {
-    let v = template::build_header_template(sheet, buf);
-    told::tell_verdict(refusal, v)
+    told::tell_verdict(refusal, template::build_header_template(sheet, buf))
 }
 
 // The number that field i holds.
@@ -191,14 +170,8 @@ pub extern "C" fn pktfmt_read_number(
     ensures { Told (zeros 1) value_numbers (sheet_read sheet.now buf.now false i) value.new refusal.old refusal.new result }
 {
     match access::locate(sheet, i) {
-        LocatorAnswer::Is(p) => {
-            let at = locators::locator_numbers(p);
-            locators::read_any(&at, buf, value, refusal)
-        }
-        LocatorAnswer::Refused(reason) => {
-            *value = [0];
-            told::tell_refusal(refusal, reason)
-        }
+        Ok(p) => locators::read_any(&locators::locator_numbers(p), buf, value, refusal),
+        Err(reason) => told::tell(value, refusal, Err(reason)),
     }
 }
 
@@ -214,11 +187,8 @@ pub extern "C" fn pktfmt_read_bytes(
     ensures { Told (zeros 2) (λ _. span_numbers (locator_of sheet.now i)) (sheet_reach sheet.now (length buf.now) true i) bytes.new refusal.old refusal.new result }
 {
     match access::locate(sheet, i) {
-        LocatorAnswer::Is(p) => locators::tell_span(p, buf, bytes, refusal),
-        LocatorAnswer::Refused(reason) => {
-            *bytes = [0; 2];
-            told::tell_refusal(refusal, reason)
-        }
+        Ok(p) => told::tell(bytes, refusal, locators::span(p, buf)),
+        Err(reason) => told::tell(bytes, refusal, Err(reason)),
     }
 }
 
@@ -235,11 +205,8 @@ pub extern "C" fn pktfmt_write_number(
     ensures buf_after { buf.new ≡ sheet_apply sheet.now buf.old (write i (a_number value)) }
 {
     match access::locate(sheet, i) {
-        LocatorAnswer::Is(p) => {
-            let at = locators::locator_numbers(p);
-            locators::write_any(&at, buf, value, refusal)
-        }
-        LocatorAnswer::Refused(reason) => told::tell_refusal(refusal, reason),
+        Ok(p) => locators::write_any(&locators::locator_numbers(p), buf, value, refusal),
+        Err(reason) => told::tell_refusal(refusal, reason),
     }
 }
 
@@ -255,8 +222,7 @@ pub extern "C" fn pktfmt_write_bytes(
     ensures answered { Answered (sheet_write_check sheet.now (length buf.old) (write i (some_bytes bytes.now))) refusal.old refusal.new result }
     ensures buf_after { buf.new ≡ sheet_apply sheet.now buf.old (write i (some_bytes bytes.now)) }
 {
-    let v = access::write_bytes(sheet, buf, i, bytes);
-    told::tell_verdict(refusal, v)
+    told::tell_verdict(refusal, access::write_bytes(sheet, buf, i, bytes))
 }
 
 // The lister's text, from the front of the buffer on, as far as there is room: how many bytes it has in all.
@@ -285,12 +251,12 @@ pub extern "C" fn pktfmt_read_number_at(
     ensures { Told (zeros 1) value_numbers (read_at (locator_from at.now) buf.now false) value.new refusal.old refusal.new result }
 {
     match locators::locator_from(at).read_at_once(buf) {
-        NumberSeen::Is(v) => {
+        Some(v) => {
             *value = [v];
             true
         }
         // the buffer as a slice anew: one that was kept for this would be stored by every read
-        NumberSeen::None => locators::read_any(at, &buf[0..], value, refusal),
+        None => locators::read_any(at, &buf[0..], value, refusal),
     }
 }
 
@@ -304,8 +270,11 @@ pub extern "C" fn pktfmt_read_bytes_at(
 ) -> bool
     ensures { Told (zeros 2) (λ _. span_numbers (locator_from at.now)) (reach_at (locator_from at.now) (length buf.now) true) bytes.new refusal.old refusal.new result }
 {
-    let p = locators::locator_from(at);
-    locators::tell_span(p, buf, bytes, refusal)
+    told::tell(
+        bytes,
+        refusal,
+        locators::span(locators::locator_from(at), buf),
+    )
 }
 
 // Writes a number there, and changes no other bit; a refusal changes nothing.
@@ -336,8 +305,8 @@ pub extern "C" fn pktfmt_write_bytes_at(
     ensures answered { Answered (write_check_at (locator_from at.now) (length buf.old) (some_bytes bytes.now)) refusal.old refusal.new result }
     ensures buf_after { buf.new ≡ apply_at (locator_from at.now) buf.old (some_bytes bytes.now) }
 {
-    let v = locators::locator_from(at).write_bytes(buf, bytes);
-    told::tell_verdict(refusal, v)
+    let written = locators::locator_from(at).write_bytes(buf, bytes);
+    told::tell_verdict(refusal, written)
 }
 
 // ---- by a length
@@ -347,13 +316,7 @@ pub extern "C" fn pktfmt_write_bytes_at(
 pub extern "C" fn pktfmt_forward(length: &[u64; 5], x: u64, y: &mut [u64; 1]) -> bool
     ensures { Found (forward_by length.now x) y.new result }
 {
-    match lengths::form_from(length) {
-        Usable::Expr(e) => told::tell_found(y, lengths::in_value(e.exec(x))),
-        Usable::None => {
-            *y = [0];
-            false
-        }
-    }
+    told::tell_found(y, lengths::forward(length, x))
 }
 
 // The value whose length this is; true where there is one.
@@ -361,11 +324,5 @@ pub extern "C" fn pktfmt_forward(length: &[u64; 5], x: u64, y: &mut [u64; 1]) ->
 pub extern "C" fn pktfmt_back(length: &[u64; 5], y: u64, x: &mut [u64; 1]) -> bool
     ensures { Found (back_by length.now y) x.new result }
 {
-    match lengths::form_from(length) {
-        Usable::Expr(e) => told::tell_found(x, e.reverse_exec(Bytes(y))),
-        Usable::None => {
-            *x = [0];
-            false
-        }
-    }
+    told::tell_found(x, lengths::back(length, y))
 }

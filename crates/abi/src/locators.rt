@@ -1,13 +1,14 @@
 // Locators in six numbers, and back; and where the bytes at a locator stand.
 ghost use Rattle.std.specs.Prelude.{◌≡◌, true, false, cond, eqb, length};
+ghost use Rattle.answer.specs.Paper.{says};
 ghost use Rattle.layout.specs.Access.{number as a_number};
 ghost use Rattle.locator.specs.Locator.{held_default, reach_at, write_check_at, read_at, apply_at};
-ghost use Rattle.abi.specs.Told.{zeros, Answered, Told};
+ghost use Rattle.abi.specs.Told.{zeros, Answered, Told, answer_in};
 ghost use Rattle.abi.specs.Numbers.{held_number, locator_numbers, locator_with, locator_from, value_numbers, span_numbers};
 
-use answer::Verdict;
-use bits::BitPos;
-use locator::{Held, Locator, NumberAnswer};
+use answer::Refusal;
+use bits::{BitPos, Run};
+use locator::{Held, Locator};
 use number::{Bits, Bytes};
 
 pub(crate) fn held_number(held: Held) -> u64
@@ -33,14 +34,13 @@ pub(crate) fn default_in(held: Held) -> u64
 pub(crate) fn locator_numbers(p: Locator) -> [u64; 6]
     ensures { result ≡ locator_numbers p }
 {
-    let held = p.held;
     [
         p.index as u64,
         p.header.0,
-        p.start.global.0,
-        p.width.0,
-        held_number(held),
-        default_in(held),
+        p.run.start.global.0,
+        p.run.width.0,
+        held_number(p.held),
+        default_in(p.held),
     ]
 }
 
@@ -50,10 +50,10 @@ fn locator_with(numbers: &[u64; 6], width: u64, held: Held) -> Locator
     Locator {
         index: numbers[0] as usize,
         header: Bytes(numbers[1]),
-        start: BitPos {
-            global: Bits(numbers[2]),
+        run: Run {
+            start: BitPos::new(Bits(numbers[2])),
+            width: Bits(width),
         },
-        width: Bits(width),
         held,
     }
 }
@@ -66,6 +66,7 @@ fn bytes_width(width: u64, default: u64) -> u64
 }
 
 // The locator of six numbers; where they stand for nothing held, one of no bits, which no field has.
+#[tactic(auto, unfolding(crate::specs::Numbers::held_from))]
 pub(crate) fn locator_from(numbers: &[u64; 6]) -> Locator
     ensures { result ≡ locator_from numbers.now }
 {
@@ -82,6 +83,13 @@ pub(crate) fn locator_from(numbers: &[u64; 6]) -> Locator
 // What the boundary's functions at a locator do, where it is not done at once; and for those by the sheet. Apart from them, so that what is done at once is compiled
 // into them, and nothing of this is.
 
+// The number that is held at a locator, or access 1 to 3.
+fn value_at(p: Locator, buf: &[u8]) -> Result<[u64; 1], Refusal>
+    ensures { says result ≡ answer_in value_numbers (read_at p buf.now false) }
+{
+    Ok([p.read_number(buf)?])
+}
+
 // The number that is held there, or access 1 to 3.
 pub(crate) fn read_any(
     at: &[u64; 6],
@@ -91,16 +99,7 @@ pub(crate) fn read_any(
 ) -> bool
     ensures { Told (zeros 1) value_numbers (read_at (locator_from at.now) buf.now false) value.new refusal.old refusal.new result }
 {
-    match locator_from(at).read_number(buf) {
-        NumberAnswer::Is(v) => {
-            *value = [v];
-            true
-        }
-        NumberAnswer::Refused(reason) => {
-            *value = [0];
-            super::told::tell_refusal(refusal, reason)
-        }
-    }
+    super::told::tell(value, refusal, value_at(locator_from(at), buf))
 }
 
 // Writes a number there, and changes no other bit; a refusal changes nothing.
@@ -113,24 +112,9 @@ pub(crate) fn write_any(at: &[u64; 6], buf: &mut [u8], value: u64, refusal: &mut
 }
 
 // Where in a buffer the bytes at a locator stand, or access 1 to 3.
-pub(crate) fn tell_span(
-    p: Locator,
-    buf: &[u8],
-    bytes: &mut [u64; 2],
-    refusal: &mut [u64; 3],
-) -> bool
-    ensures { Told (zeros 2) (λ _. span_numbers p) (reach_at p (length buf.now) true) bytes.new refusal.old refusal.new result }
+pub(crate) fn span(p: Locator, buf: &[u8]) -> Result<[u64; 2], Refusal>
+    ensures { says result ≡ answer_in (λ _. span_numbers p) (reach_at p (length buf.now) true) }
 {
-    match p.can_read_bytes(buf) {
-        Verdict::Accepted => {
-            let start = p.start;
-            let width = p.width;
-            *bytes = [start.byte_pos().0, width.whole_bytes().0];
-            true
-        }
-        Verdict::Refused(reason) => {
-            *bytes = [0; 2];
-            super::told::tell_refusal(refusal, reason)
-        }
-    }
+    p.can_read_bytes(buf)?;
+    Ok([p.run.start.byte_pos().0, p.run.width.whole_bytes().0])
 }

@@ -1,14 +1,17 @@
 // The records of fields, fourteen numbers each.
 ghost use Rattle.std.specs.Prelude.{◌≡◌, ◌≤◌, ◌<◌};
+ghost use Rattle.answer.specs.Paper.{says};
 ghost use Rattle.sheet.specs.Blocks.{field_count};
 ghost use Rattle.header.specs.Starts.{start_at};
 ghost use Rattle.header.specs.Step.{header_bytes, header_of};
-ghost use Rattle.access.specs.Access.{locator_of};
+ghost use Rattle.access.specs.Access.{locator_of, locator_in};
+ghost use Rattle.abi.specs.Told.{answer_in};
 ghost use Rattle.abi.specs.Numbers.{default_count, default_begins, record_numbers, field_numbers, field_rows, index_named};
 
+use answer::Refusal;
 use bits::BitPos;
 use field::{DefaultVal, Field};
-use header::{FieldIndex, Header};
+use header::Header;
 use locator::Locator;
 use number::{Bits, Bytes};
 
@@ -17,8 +20,7 @@ fn default_count(default: DefaultVal) -> usize
     ensures { result ≡ default_count default }
 {
     match default {
-        DefaultVal::Num(_) => 0,
-        DefaultVal::Bool(_) => 0,
+        DefaultVal::Num(_) | DefaultVal::Bool(_) => 0,
         DefaultVal::Bytes(span) => span.len,
     }
 }
@@ -35,25 +37,22 @@ fn default_begins(i: usize, count: usize) -> usize
 }
 
 // Of the field with this locator and this record, whose name has so many bytes.
+#[tactic(auto, unfolding(crate::specs::Numbers::record_numbers))]
 fn record_numbers(p: Locator, f: Field, name: usize) -> [u64; 14]
     requires { p.index < 64 }
     ensures { result ≡ record_numbers p f name }
 {
-    let held = p.held;
-    let repr = f.repr;
-    let arg = f.arg;
-    let default = f.default;
     let i = p.index;
-    let count = default_count(default);
+    let count = default_count(f.default);
     [
         i as u64,
         p.header.0,
-        p.start.global.0,
-        p.width.0,
-        super::locators::held_number(held),
-        super::locators::default_in(held),
-        repr.code() as u64,
-        arg.code() as u64,
+        p.run.start.global.0,
+        p.run.width.0,
+        super::locators::held_number(p.held),
+        super::locators::default_in(p.held),
+        f.repr.code() as u64,
+        f.arg.code() as u64,
         f.generate as u64,
         f.need_write_guard() as u64,
         (blocks::SIZE * i + blocks::NAME) as u64,
@@ -64,12 +63,20 @@ fn record_numbers(p: Locator, f: Field, name: usize) -> [u64; 14]
 }
 
 // Of a sheet's field, by its locator.
-pub(crate) fn field_record(s: &[u8], p: Locator) -> [u64; 14]
+fn field_record(s: &[u8], p: Locator) -> [u64; 14]
     requires { p.index < 64 }
     ensures { result ≡ field_numbers s.now p }
 {
     let b = sheet::block(s, p.index);
     record_numbers(p, field_blocks::resolved(b), blocks::name(b).len())
+}
+
+// Of field i, or access 1.
+pub(crate) fn record_by_index(s: &[u8], i: usize) -> Result<[u64; 14], Refusal>
+    ensures { says result ≡ answer_in (field_numbers s.now) (locator_in s.now i) }
+{
+    let p = access::locate(s, i)?;
+    Ok(field_record(s, p))
 }
 
 // Of field i, by where it starts.
@@ -91,16 +98,11 @@ pub(crate) fn tell_fields(s: &[u8], h: Header, fields: &mut [[u64; 14]; 64])
     requires s_bound { field_count s.now ≤ 64 }
     ensures { fields.new ≡ field_rows s.now }
 {
-    let none = [[0; 14]; 64];
-    *fields = none;
-    let header = h.len;
-    let n = h.fields;
+    *fields = [[0; 14]; 64];
     let mut start = Bits(0);
-    let mut i = 0;
-    while i < n {
-        fields[i] = record_at(s, i, header, start);
+    for i in 0..h.fields {
+        fields[i] = record_at(s, i, h.len, start);
         start = Bits(start.0 + field_blocks::bits_in(sheet::block(s, i)).0);
-        i += 1;
     }
 }
 
@@ -108,8 +110,5 @@ pub(crate) fn tell_fields(s: &[u8], h: Header, fields: &mut [[u64; 14]; 64])
 pub(crate) fn index_named(s: &[u8], name: &[u8]) -> usize
     ensures { result ≡ index_named s.now name.now }
 {
-    match header::unchecked_field_named(s, name) {
-        FieldIndex::At(i) => i,
-        FieldIndex::None => sheet::block_counts(s).fields,
-    }
+    header::unchecked_field_named(s, name).unwrap_or_else(|| sheet::block_counts(s).fields)
 }

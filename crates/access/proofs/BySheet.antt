@@ -1,5 +1,6 @@
 -- The entries by whether the sheet has the field: where it does, reading and writing at its locator is what is owed of the field; where it does not, its
 -- refusal stands and nothing is changed. Then: answers that say the same are the same. Assumes nothing.
+use Rattle.std.specs.Prelude.{Option, Some, None, Result, Ok, Err}
 use mathlib.Core.Path.{◌≡◌, refl, sym, ap, ◌∙◌}
 use mathlib.Core.Bool.{Bool, not, beq}
 use mathlib.Core.List.{List}
@@ -11,13 +12,14 @@ use native.Mathlib.Omega.{arith}
 use lib.Dec.{leb, ltb}
 use lib.ListN.{length}
 use borrow.Author.Tests.{le-leb, lt-leb}
+use Rattle.std.specs.Result.{IsErrAnd}
+use Rattle.std.proofs.lemmas.Result.{err_from_is_err_and}
 use Rattle.answer.specs.declared.Group.{Group}
 use Rattle.answer.specs.declared.Refusal.{Refusal}
-use Rattle.answer.specs.declared.Verdict.{Verdict}
-use Rattle.answer.specs.Paper.{Answer, gives, refused, Check, accepted, refusal_says, refuse, ◌and_then◌}
+use Rattle.answer.specs.Paper.{Answer, gives, refused, Check, accepted, refusal_says, refuse, ◌and_then◌, says}
 use Rattle.answer.proofs.Chains.{and_then-assoc, stand, both_is, refuse-is, given, not-given}
 use Rattle.answer.proofs.Tests.{leb-is-not}
-use Rattle.answer.proofs.OneToOne.{refusal-one, verdict-one}
+use Rattle.answer.proofs.OneToOne.{says-one}
 use Rattle.number.specs.declared.Bytes.{Bytes}
 use Rattle.bits.specs.declared.BitPos.{BitPos}
 use Rattle.bits.specs.Positions.{global_of}
@@ -30,20 +32,18 @@ use Rattle.layout.proofs.Access.{written}
 use Rattle.header.specs.Starts.{header_layout, start_at}
 use Rattle.header.specs.Step.{header_bytes}
 use Rattle.header.proofs.Starts.{layout-length}
-use Rattle.definition.specs.declared.FieldWithStart.{FieldWithStart}
 use Rattle.definition.specs.Definition.{definition_check, Accepted}
 use Rattle.definition.specs.Unchecked.{field_with_start, field_with_start_says}
 use Rattle.definition.proofs.Unchecked.{field-given, no_field}
 use Rattle.locator.specs.declared.Locator.{Locator}
 use Rattle.locator.specs.Locator.{reach_at, write_check_at, read_at, apply_at, WrittenAt}
-use Rattle.access.specs.declared.LocatorAnswer.{LocatorAnswer}
-use Rattle.access.specs.Access.{sheet_reach, sheet_read, sheet_write_check, sheet_apply, SheetWritten, locator_for, locator_of, locator_check, locator_in, locator_answer_says}
+use Rattle.access.specs.Access.{sheet_reach, sheet_read, sheet_write_check, sheet_apply, SheetWritten, locator_for, locator_of, locator_check, locator_in}
 use Rattle.access.proofs.Locators.{reach-same, read_same, write-check-same, apply-same}
 
 -- ---- the locator of a field of an accepted sheet
 
-module _ (s : List ℕ) (i : ℕ) (ok : Accepted s) {n : FieldWithStart} (said : field_with_start_says n ≡ field_with_start s i) where
-  pub locator-none : n ≡ FieldWithStart.None → ◌≡◌ {A = Answer Locator} (refused Group.Access 1 i) (locator_in s i)
+module _ (s : List ℕ) (i : ℕ) (ok : Accepted s) {n : Option (Field × BitPos)} (said : field_with_start_says n ≡ field_with_start s i) where
+  pub locator-none : n ≡ None → ◌≡◌ {A = Answer Locator} (refused Group.Access 1 i) (locator_in s i)
   unfolding locator_check
   locator-none is = by_count (dec_lt i (field_count s))
     where
@@ -51,7 +51,7 @@ module _ (s : List ℕ) (i : ℕ) (ok : Accepted s) {n : FieldWithStart} (said :
       by_count (yes h) = let e = sym (ap field_with_start_says is) ∙ said ∙ field-given s i ok h in cc
       by_count (no h) = rw (ok, le-leb (field_count s) i (omega arith))
 
-  pub locator-at : {f : Field} {start : BitPos} {header : Bytes} {p : Locator} → n ≡ FieldWithStart.Is f start → header.0 ≡ header_bytes s → p ≡ locator_for i header start f
+  pub locator-at : {f : Field} {start : BitPos} {header : Bytes} {p : Locator} → n ≡ Some (f, start) → header.0 ≡ header_bytes s → p ≡ locator_for i header start f
       → gives p ≡ locator_in s i
   unfolding locator_check
   locator-at {f} {start} {header} {p} is bytes p-is = by_count (dec_lt i (field_count s))
@@ -66,12 +66,12 @@ module _ (s : List ℕ) (i : ℕ) (ok : Accepted s) {n : FieldWithStart} (said :
       by_count (no h) = let e = sym (ap field_with_start_says is) ∙ said ∙ no_field s i (omega arith) in cc
 
 -- what the program was told of a locator: it is that of a field, or the refusal
-module _ (s : List ℕ) (i : ℕ) {q : LocatorAnswer} (e : locator_answer_says q ≡ locator_in s i) where
-  pub locator-given : {p : Locator} → q ≡ LocatorAnswer.Is p → locator_in s i ≡ gives p
-  locator-given is = sym e ∙ ap locator_answer_says is
+module _ (s : List ℕ) (i : ℕ) {q : Result Locator Refusal} (e : says q ≡ locator_in s i) where
+  pub locator-given : {p : Locator} → q ≡ Ok p → locator_in s i ≡ gives p
+  locator-given is = sym e ∙ ap says is
 
-  pub locator-refused : {r : Refusal} → q ≡ LocatorAnswer.Refused r → locator_check s i ≡ refusal_says r
-  locator-refused is = not-given (locator_check s i) (locator_of s i) (sym e ∙ ap locator_answer_says is)
+  pub locator-refused : {r : Refusal} → q ≡ Err r → locator_check s i ≡ refusal_says r
+  locator-refused is = not-given (locator_check s i) (locator_of s i) (sym e ∙ ap says is)
 
 module _ (s : List ℕ) (i : ℕ) where
   -- ---- what comes after the refusal of the sheet, and after access 1
@@ -120,10 +120,14 @@ untouched s b w {g} {k} {at} = by-verdict (definition_check s)
     by-verdict (gives _) e = rw e
     by-verdict (refused g' k' at') e = refl
 
-pub not_written : (s b : List ℕ) (i : ℕ) (v : Value) (r : Refusal) → locator_check s i ≡ refusal_says r → SheetWritten s b b (write i v) (Verdict.Refused r)
+pub not_written : (s b : List ℕ) (i : ℕ) (v : Value) (r : Refusal) → locator_check s i ≡ refusal_says r → SheetWritten s b b (write i v) (Err r)
 not_written s b i v r e =
     let said = write-refused s i e (length b) v in
     record { answer = sym said; bytes = sym (untouched s b (write i v) said) }
+
+-- so where `?` hands it on
+pub handed_on : (s b : List ℕ) (i : ℕ) (v : Value) (q : Result (Unit {0}) Refusal) (r : Refusal) → IsErrAnd q (λ z. z ≡ r) → locator_check s i ≡ refusal_says r → SheetWritten s b b (write i v) q
+handed_on s b i v q r h e = let p = err_from_is_err_and q h in rw (p.1, p.2) (not_written s b i v r e)
 
 -- ---- a locator: what is owed of the field
 
@@ -169,16 +173,10 @@ module _ (s : List ℕ) (i : ℕ) {p : Locator} (e : locator_in s i ≡ gives p)
   pub apply-there : (b : List ℕ) (v : Value) → apply_at p b v ≡ sheet_apply s b (write i v)
   apply-there b v = rw (← found.1) (apply-same s there.0 i there.1 b v ∙ sym (apply-is s there.0 b (write i v)))
 
-  pub written-there : {b c : List ℕ} {v : Value} {r : Verdict} → WrittenAt p b c v r → SheetWritten s b c (write i v) r
+  pub written-there : {b c : List ℕ} {v : Value} {r : Result (Unit {0}) Refusal} → WrittenAt p b c v r → SheetWritten s b c (write i v) r
   written-there {b} {c} {v} w = record { answer = w.answer ∙ write-check-there (length b) v; bytes = w.bytes ∙ apply-there b v }
 
 -- ---- one answer
 
-pub locator-one : (q r : LocatorAnswer) → locator_answer_says q ≡ locator_answer_says r → q ≡ r
-locator-one (LocatorAnswer.Is x) (LocatorAnswer.Is y) e = cc
-locator-one (LocatorAnswer.Is x) (LocatorAnswer.Refused r) e = cc
-locator-one (LocatorAnswer.Refused q) (LocatorAnswer.Is y) e = cc
-locator-one (LocatorAnswer.Refused q) (LocatorAnswer.Refused r) e = ap LocatorAnswer.Refused (refusal-one q r e)
-
-pub written_one : {s b c d : List ℕ} {w : Write} {q r : Verdict} → SheetWritten s b c w q → SheetWritten s b d w r → (q ≡ r) × (c ≡ d)
-written_one {q = q} {r} x y = (verdict-one q r (x.answer ∙ sym y.answer), x.bytes ∙ sym y.bytes)
+pub written_one : {s b c d : List ℕ} {w : Write} {q r : Result (Unit {0}) Refusal} → SheetWritten s b c w q → SheetWritten s b d w r → (q ≡ r) × (c ≡ d)
+written_one {q = q} {r} x y = (says-one q r (x.answer ∙ sym y.answer), x.bytes ∙ sym y.bytes)

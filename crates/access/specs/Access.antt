@@ -1,8 +1,8 @@
 -- Reads and writes of the fields of a sheet: the sheet's own refusal first, then access 1 to 5 over its header, as `layout` states them. Assumes nothing.
-use Rattle.std.specs.Prelude.{◌≡◌, Bool, true, false, List, ℕ, leb, length}
+use Rattle.answer.specs.declared.Refusal.{Refusal}
+use Rattle.std.specs.Prelude.{◌≡◌, Bool, true, false, List, ℕ, leb, length, Result}
 use Rattle.answer.specs.declared.Group.{Group}
-use Rattle.answer.specs.declared.Verdict.{Verdict}
-use Rattle.answer.specs.Paper.{Answer, gives, Check, refusal_says, verdict_says, refuse, ◌and_then◌}
+use Rattle.answer.specs.Paper.{Answer, gives, Check, says, refuse, ◌and_then◌}
 use Rattle.number.specs.declared.Bytes.{Bytes}
 use Rattle.bits.specs.declared.BitPos.{BitPos}
 use Rattle.sheet.specs.Blocks.{field_count}
@@ -16,7 +16,6 @@ use Rattle.header.specs.Step.{header_bytes}
 use Rattle.definition.specs.Definition.{definition_check}
 use Rattle.locator.specs.declared.Held.{Held}
 use Rattle.locator.specs.declared.Locator.{Locator}
-use Rattle.access.specs.declared.LocatorAnswer.{LocatorAnswer}
 
 -- whether field i can be read from a buffer of n bytes, as bytes or as a number
 unfoldable pub sheet_reach : List ℕ → ℕ → Bool → ℕ → Check
@@ -35,8 +34,8 @@ unfoldable pub sheet_apply : List ℕ → List ℕ → Write → List ℕ
 sheet_apply s b w = after (definition_check s) (apply (header_layout s) b w) b
 
 -- the answer to a write, and the buffer b' after it
-pub record SheetWritten (s b b' : List ℕ) (w : Write) (r : Verdict) : Type 0 where
-  pub answer : verdict_says r ≡ sheet_write_check s (length b) w
+pub record SheetWritten (s b b' : List ℕ) (w : Write) (r : Result (Unit {0}) Refusal) : Type 0 where
+  pub answer : says r ≡ sheet_write_check s (length b) w
   pub bytes : b' ≡ sheet_apply s b w
 
 -- ---- the locator of field i of a sheet: the sheet's own refusal, then access 1
@@ -53,7 +52,7 @@ held_of false f = Held.Number (default_or_zero f.default) f.fixed
 
 -- where a field with this record stands
 abbrev pub locator_for : ℕ → Bytes → BitPos → Field → Locator
-locator_for i header start f = record { index = i; header = header; start = start; width = f.width; held = held_of (is_slice f.repr) f }
+locator_for i header start f = record { index = i; header = header; run = record { start = start; width = f.width }; held = held_of (is_slice f.repr) f }
 
 abbrev pub locator_of : List ℕ → ℕ → Locator
 locator_of s i = locator_for i (record { 0 = header_bytes s }) (record { global = record { 0 = start_at s i } }) (field_at s i)
@@ -63,8 +62,3 @@ locator_check s i = definition_check s and_then refuse (leb (field_count s) i) G
 
 abbrev pub locator_in : List ℕ → ℕ → Answer Locator
 locator_in s i = locator_check s i and_then gives (locator_of s i)
-
--- what the program's answer says
-abbrev pub locator_answer_says : LocatorAnswer → Answer Locator
-locator_answer_says (LocatorAnswer.Is p) = gives p
-locator_answer_says (LocatorAnswer.Refused r) = refusal_says r

@@ -3,27 +3,19 @@
 #![tactic(auto)]
 
 ghost use Rattle.std.specs.Prelude.{◌≡◌, true, false, length};
-ghost use Rattle.answer.specs.Paper.{verdict_says};
+ghost use Rattle.answer.specs.Paper.{says};
 ghost use Rattle.types.specs.Types.{is_slice};
 ghost use Rattle.layout.specs.Access.{number as a_number, bytes as some_bytes, write};
 ghost use Rattle.header.specs.Step.{header_bytes};
 ghost use Rattle.definition.specs.Definition.{Accepted};
 ghost use Rattle.locator.specs.Locator.{number_answer_says, part_of};
-ghost use Rattle.access.specs.Access.{sheet_reach, sheet_read, SheetWritten, default_or_zero, held_of, locator_for, locator_in, locator_answer_says};
+ghost use Rattle.access.specs.Access.{sheet_reach, sheet_read, SheetWritten, default_or_zero, held_of, locator_for, locator_in};
 
-use answer::{AccessFault, Refusal, Verdict};
-use bits::BitPos;
-use definition::FieldWithStart;
+use answer::{AccessFault, Refusal};
+use bits::{BitPos, Run};
 use field::{DefaultVal, Field};
-use header::NewHeader;
-use locator::{Held, Locator, NumberAnswer};
+use locator::{Held, Locator};
 use number::Bytes;
-
-#[derive(Clone, Copy)]
-pub enum LocatorAnswer {
-    Is(Locator),
-    Refused(Refusal),
-}
 
 // ---- the locator of a field
 
@@ -33,71 +25,61 @@ fn default_or_zero(default: DefaultVal) -> u64
 {
     match default {
         DefaultVal::Num(n) => n,
-        DefaultVal::Bool(_) => 0, // no number field has one
-        DefaultVal::Bytes(_) => 0,
+        DefaultVal::Bool(_) | DefaultVal::Bytes(_) => 0, // no number field has one
     }
 }
 
 fn held_of(f: Field) -> Held
     ensures { result ≡ held_of (is_slice f.repr) f }
 {
-    let repr = f.repr;
-    let default = f.default;
-    if repr.is_slice() {
+    if f.repr.is_slice() {
         return Held::Bytes;
     }
-    Held::Number(default_or_zero(default), f.fixed)
+    Held::Number(default_or_zero(f.default), f.fixed)
 }
 
 // The locator of field i, whose record this is, in a header of so many bytes.
 pub fn locator_for(i: usize, header: Bytes, start: BitPos, f: Field) -> Locator
     ensures { result ≡ locator_for i header start f }
 {
-    let width = f.width;
     Locator {
         index: i,
         header,
-        start,
-        width,
+        run: Run {
+            start,
+            width: f.width,
+        },
         held: held_of(f),
     }
 }
 
 // The locator of field i of an accepted sheet, whose header has so many bytes; or access 1.
-fn locator_of(s: &[u8], i: usize, header: Bytes) -> LocatorAnswer
+fn locator_of(s: &[u8], i: usize, header: Bytes) -> Result<Locator, Refusal>
     requires accepted { Accepted s.now }
     requires header_value { header.0 ≡ header_bytes s.now }
-    ensures { locator_answer_says result ≡ locator_in s.now i }
+    ensures { says result ≡ locator_in s.now i }
 {
     match definition::unchecked_field(s, i) {
-        FieldWithStart::None => LocatorAnswer::Refused(Refusal::Access(
-            AccessFault::NoSuchField,
-            i,
-        )),
-        FieldWithStart::Is(f, start) => LocatorAnswer::Is(locator_for(i, header, start, f)),
+        Some((f, start)) => Ok(locator_for(i, header, start, f)),
+        None => Err(Refusal::Access(AccessFault::NoSuchField, i)),
     }
 }
 
 // The locator of field i, the sheet's own refusal, or access 1.
-pub fn locate(s: &[u8], i: usize) -> LocatorAnswer
-    ensures { locator_answer_says result ≡ locator_in s.now i }
+pub fn locate(s: &[u8], i: usize) -> Result<Locator, Refusal>
+    ensures { says result ≡ locator_in s.now i }
 {
-    match definition::checked_header(s) {
-        NewHeader::Refused(reason) => LocatorAnswer::Refused(reason),
-        NewHeader::Is(h) => locator_of(s, i, h.len),
-    }
+    let header = definition::checked_header(s)?;
+    locator_of(s, i, header.len)
 }
 
 // ---- reads
 
 // The number that field i holds, or the refusal.
-pub fn read_number(s: &[u8], buf: &[u8], i: usize) -> NumberAnswer
+pub fn read_number(s: &[u8], buf: &[u8], i: usize) -> Result<u64, Refusal>
     ensures { number_answer_says result ≡ sheet_read s.now buf.now false i }
 {
-    match locate(s, i) {
-        LocatorAnswer::Is(p) => p.read_number(buf),
-        LocatorAnswer::Refused(reason) => NumberAnswer::Refused(reason),
-    }
+    locate(s, i)?.read_number(buf)
 }
 
 // The bytes that field i holds, a part of the buffer; an empty part where they cannot be read.
@@ -105,39 +87,30 @@ pub fn read_bytes<'a>(s: &[u8], buf: &'a [u8], i: usize) -> &'a [u8]
     ensures { result.now ≡ part_of (sheet_read s.now buf.now true i) }
 {
     match locate(s, i) {
-        LocatorAnswer::Is(p) => p.read_bytes(buf),
-        LocatorAnswer::Refused(_) => &buf[..0],
+        Ok(p) => p.read_bytes(buf),
+        Err(_) => &buf[..0],
     }
 }
 
 // Whether field i can be read as bytes, or the refusal.
-pub fn can_read_bytes(s: &[u8], buf: &[u8], i: usize) -> Verdict
-    ensures { verdict_says result ≡ sheet_reach s.now (length buf.now) true i }
+pub fn can_read_bytes(s: &[u8], buf: &[u8], i: usize) -> Result<(), Refusal>
+    ensures { says result ≡ sheet_reach s.now (length buf.now) true i }
 {
-    match locate(s, i) {
-        LocatorAnswer::Is(p) => p.can_read_bytes(buf),
-        LocatorAnswer::Refused(reason) => Verdict::Refused(reason),
-    }
+    locate(s, i)?.can_read_bytes(buf)
 }
 
 // ---- writes
 
 // Writes a number to field i, and changes no other bit; or the refusal, and nothing is changed.
-pub fn write_number(s: &[u8], buf: &mut [u8], i: usize, v: u64) -> Verdict
+pub fn write_number(s: &[u8], buf: &mut [u8], i: usize, v: u64) -> Result<(), Refusal>
     ensures { SheetWritten s.now buf.old buf.new (write i (a_number v)) result }
 {
-    match locate(s, i) {
-        LocatorAnswer::Is(p) => p.write_number(buf, v),
-        LocatorAnswer::Refused(reason) => Verdict::Refused(reason),
-    }
+    locate(s, i)?.write_number(buf, v)
 }
 
 // Writes bytes to field i, and changes no other bit; or the refusal, and nothing is changed.
-pub fn write_bytes(s: &[u8], buf: &mut [u8], i: usize, bytes: &[u8]) -> Verdict
+pub fn write_bytes(s: &[u8], buf: &mut [u8], i: usize, bytes: &[u8]) -> Result<(), Refusal>
     ensures { SheetWritten s.now buf.old buf.new (write i (some_bytes bytes.now)) result }
 {
-    match locate(s, i) {
-        LocatorAnswer::Is(p) => p.write_bytes(buf, bytes),
-        LocatorAnswer::Refused(reason) => Verdict::Refused(reason),
-    }
+    locate(s, i)?.write_bytes(buf, bytes)
 }

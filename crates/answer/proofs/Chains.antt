@@ -9,8 +9,9 @@ use native.Mathlib.Numerals.{add-one}
 use native.Mathlib.Omega.{arith}
 use Rattle.answer.specs.declared.Group.{Group}
 use Rattle.answer.specs.declared.Refusal.{Refusal}
-use Rattle.answer.specs.declared.Verdict.{Verdict}
-use Rattle.answer.specs.Paper.{Answer, gives, refused, Check, accepted, verdict_says, ◌and_then◌, refuse, first}
+use Rattle.std.specs.Prelude.{Result, Ok, IsErrAnd}
+use Rattle.std.proofs.lemmas.Result.{err_from_is_err_and}
+use Rattle.answer.specs.Paper.{Answer, gives, refused, Check, accepted, refusal_says, says, ◌and_then◌, refuse, first}
 
 -- ---- one check after another
 
@@ -69,12 +70,16 @@ pub not-given : {A : Type 0} (x : Check) (u : A) {g : Group} {n at : ℕ} → (x
 not-given (gives _) u e = cc
 not-given (refused g n at) u e = cc
 
--- what the program had from a check: it refused, and that stands; or it passed
-pub stop : {v : Verdict} {r : Refusal} {x : Check} (y : Check) → v ≡ Verdict.Refused r → verdict_says v ≡ x → verdict_says v ≡ (x and_then y)
-stop y e h = ap verdict_says e ∙ sym (stand y (sym h ∙ ap verdict_says e))
+-- what `?` hands on of a refusal is that refusal, and it stands for whatever was still to come
+pub handed : {A : Type 0} (r : Result A Refusal) (e : Refusal) → IsErrAnd r (λ x. x ≡ e) → says r ≡ refusal_says e
+handed r e h = let p = err_from_is_err_and r h in rw (p.1, p.2)
 
-pub passed : {v : Verdict} {x : Check} → v ≡ Verdict.Accepted → verdict_says v ≡ x → x ≡ accepted
-passed e h = sym h ∙ ap verdict_says e
+pub stop : {B : Type 0} (r : Result B Refusal) (e : Refusal) {x : Check} (y : Answer B) → IsErrAnd r (λ z. z ≡ e) → refusal_says {A = Unit {0}} e ≡ x → says r ≡ (x and_then y)
+stop r e y h k = handed r e h ∙ sym (stand y (sym k))
+
+-- a check of which the program went on passed
+pub passed : {v : Result (Unit {0}) Refusal} {x : Check} → v ≡ Ok tt → says v ≡ x → x ≡ accepted
+passed e h = sym h ∙ ap says e
 
 -- ---- the first refusal among many
 
@@ -93,9 +98,9 @@ module _ (f : ℕ → Check) where
   first-stop i zero h a e = absurd (omega arith)
   first-stop i (suc n) h a e = ⊎_elim (λ q. rw (← q, a) e) (λ l. stand (f n) (first-stop i n l a e)) (eq-or-lt_of_le {n = i} {m = n} (omega arith))
 
-  -- the same, of the program's answer
-  pub first_stops : {v : Verdict} {r : Refusal} (i n : ℕ) → i < n → first f i ≡ accepted → v ≡ Verdict.Refused r → verdict_says v ≡ f i → verdict_says v ≡ first f n
-  first_stops i n h a e p = ap verdict_says e ∙ sym (first-stop i n h a (sym p ∙ ap verdict_says e))
+  -- the same, where `?` hands it on
+  pub first_stops : (r : Result (Unit {0}) Refusal) (e : Refusal) (i n : ℕ) → i < n → first f i ≡ accepted → IsErrAnd r (λ z. z ≡ e) → refusal_says {A = Unit {0}} e ≡ f i → says r ≡ first f n
+  first_stops r e i n h a q p = handed r e q ∙ sym (first-stop i n h a (sym p))
 
   -- the walk passes exactly where each check does
   pub all-passed : (n : ℕ) → ((i : ℕ) → i < n → f i ≡ accepted) → first f n ≡ accepted

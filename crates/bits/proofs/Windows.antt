@@ -1,32 +1,33 @@
 -- What the functions on runs ask: a run cut out of a window of 64 bits and pasted into it, bytes stored one after the other, whether a run fits.
 -- Assumes nothing.
 use mathlib.Core.Path.{◌≡◌, refl, sym, ap, ◌∙◌, subst}
-use mathlib.Core.Bool.{Bool, true, false, cond, ◌&&◌}
 use mathlib.Core.List.{List}
 use Prim.Native.Nat.{ℕ, zero, suc, ◌+◌, ◌-◌, ◌*◌, ◌/◌, ◌%◌, ◌^◌, ◌≤◌, ◌<◌}
-use native.Mathlib.Nat.{mul-div-mul_right, mod-lt, mod-eq_of_lt, mod-one, add-mul, div-one, div-eq_of_lt}
-use native.Mathlib.Decide.{dec_lt, ℕ_discrete}
+use native.Mathlib.Nat.{mul-div-mul_right, mod-lt, mod-eq_of_lt, mod-one, zero-mod, add-mul, div-one}
+use native.Mathlib.Decide.{dec_lt}
 use native.Mathlib.Omega.{arith}
 use lib.Arith.{digits_lt}
-use lib.Dec.{ltb, lit<}
-use lib.ListN.{length, take, drop, set, length-set}
+use lib.Dec.{lit<}
+use lib.ListN.{length, replicate, take, drop, length-append, length-take, length-drop}
 use lib.Pow.{field, pow_pos, pow-add, split, shr-shr, shr_lt, shl_exact, high, low}
-use lib.Seq.{get_or-set_same, get_or-set_other}
+use lib.Seq.{get_or-take, get_or-drop}
 use borrow.Author.Tests.{lt-ltb, le-ltb}
-use Rattle.answer.proofs.Tests.{clash}
+use borrow.Rule.Slice.PartMut.{put_mid}
+use Rattle.std.specs.Prelude.{Ok, Err}
+use Rattle.std.specs.Int.{w64, byte_at, bytes_high_first, to_be_bytes}
+use Rattle.std.proofs.lemmas.Nat.{from_be_bytes-to_be_bytes_8}
+use Rattle.std.proofs.lemmas.Slice.{take-put_mid_below, drop-put_mid, between-put_mid}
 use Rattle.octets.specs.Octets.{AreBytes, byte, be}
-use Rattle.bits.specs.declared.Fit.{Fit}
-use Rattle.bits.specs.declared.NumberSeen.{NumberSeen}
-use Rattle.bits.specs.declared.NumberWrite.{NumberWrite}
-use Rattle.bits.specs.declared.BytesWrite.{BytesWrite}
-use Rattle.bits.specs.Bits.{bit, num, value, touched}
+use Rattle.bits.specs.declared.RunFault.{RunFault}
+use Rattle.octets.proofs.Octets.{zeros, be_eight}
+use Rattle.bits.specs.Bits.{bit, num, value, spelled, touched}
 use Rattle.bits.specs.Writes.{new_bit, put}
-use Rattle.bits.specs.Runs.{fit_of, seen, read_as, read_number, write_as, write_answer, is_done, bytes_answer, bytes_as, bytes_at}
+use Rattle.bits.specs.Runs.{RunCheck, fit_of, bytes_answer}
 use Rattle.bits.proofs.Num.{num-ext, num-digits, num-split, num-first, num-at}
-use Rattle.bits.proofs.Bits.{bit-same, value-lt, value-byte, value-be}
-use Rattle.bits.proofs.Put.{by-run, new-before, new_in, new-after, new-lt, put-ext, put-length, put-bytes}
-use Rattle.bits.proofs.Writes.{side_by_side, write_read, wrote-put}
-use Rattle.bits.specs.Working.{pasted, fits}
+use Rattle.bits.proofs.Bits.{bit-lt, bit-same, value-lt, value-be}
+use Rattle.bits.proofs.Put.{by-run, new-before, new_in, new-after, new-lt, put-ext}
+use Rattle.bits.proofs.Writes.{wrote-put, part-spelled}
+use Rattle.bits.specs.Working.{pasted}
 
 -- ---- a field of a number of 64 bits
 
@@ -161,211 +162,98 @@ module _ (b : List ℕ) (bytes : AreBytes b) (s w f : ℕ) (from : 8 * f ≤ s) 
   pub window-written : (v : ℕ) → v < 2 ^ w → {n y : ℕ} {c : List ℕ} → s + w ≤ 8 * f + 8 * n → n ≤ 8 → y ≡ pasted x w (64 - (k + w)) v → c ≡ put b (8 * f) (8 * n) (y / 2 ^ (64 - 8 * n)) → c ≡ put b s w v
   window-written v small {n} all most y-is e = e ∙ rw (y-is, window, k-is) (window-stored b s w f v n from all most small)
 
--- ---- bytes stored one after the other
+-- ---- bytes stored in one piece
 
--- a byte stored is a write to its eight bits
-set-put : (c : List ℕ) (i y : ℕ) → AreBytes c → i < length c → y < 256 → set c i y ≡ put c (8 * i) 8 y
-set-put c i y h l small = wrote-put (omega arith) small (record {
-  bytes = λ k. stored k (dec_eq k);
-  same_length = length-set c i y;
-  before = λ k q. bit-same (set c i y) c k (get_or-set_other c i (k / 8) y 0 (λ e. omega arith));
-  holds = value-byte (set c i y) i (stored i (dec_eq i)) ∙ get_or-set_same c i y 0 l;
-  after = λ k q. bit-same (set c i y) c k (get_or-set_other c i (k / 8) y 0 (λ e. omega arith));
-})
+-- the n bytes l, stored from byte f on
+module _ (b l : List ℕ) (f n : ℕ) (bytes : AreBytes b) (small : AreBytes l) (count : length l ≡ n) (within : f + n ≤ length b) where
+  c : List ℕ
+  c = put_mid f n b l
+
+  same_length : length c ≡ length b
+  unfolding c
+  same_length = simp (length-append, length-take, length-drop) (omega arith)
+
+  -- they are there
+  part : take n (drop f c) ≡ l
+  unfolding c
+  part =
+      let len : f + n - f ≡ n = omega arith in
+      ap (λ (m : ℕ). take m (drop f (put_mid f n b l))) (sym len) ∙ between-put_mid f n b l (f + n) (omega arith) (omega arith)
+
+  inside : (i : ℕ) → i < n → byte c (f + i) ≡ byte l i
+  inside i h = sym (get_or-take n (drop f c) i 0 h ∙ get_or-drop f c i 0) ∙ ap (λ (s : List ℕ). byte s i) part
+
+  -- and the others are as they were
+  before : (i : ℕ) → i < f → byte c i ≡ byte b i
+  unfolding c
+  before i h = sym (get_or-take f (put_mid f n b l) i 0 h) ∙ ap (λ (s : List ℕ). byte s i) (take-put_mid_below f n b l f (omega arith) (omega arith)) ∙ get_or-take f b i 0 h
+
+  after : (i : ℕ) → f + n ≤ i → byte c i ≡ byte b i
+  unfolding c
+  after i h =
+      let at : i + 0 ≡ i = omega arith in
+      ap (byte (put_mid f n b l)) (sym at) ∙ sym (get_or-drop i (put_mid f n b l) 0 0) ∙ ap (λ (s : List ℕ). byte s 0) (drop-put_mid f n b l i h (omega arith) count) ∙ get_or-drop i b 0 0 ∙ ap (byte b) at
+
+  -- so their run is written
+  written : put_mid f n b l ≡ put b (8 * f) (8 * n) (spelled l)
+  unfolding c
+  written = wrote-put (omega arith) (rw (← count) (value-lt l 0 (8 * length l))) (record {
+    bytes = λ i. by-run f n i (λ h. rw (before i h) (bytes i)) (λ j h e. rw (← e, inside j h) (small j)) (λ h. rw (after i h) (bytes i));
+    same_length = same_length;
+    before = λ k h. bit-same c b k (before (k / 8) (omega arith));
+    holds = sym (part-spelled c f n (omega (arith, same_length))) ∙ ap spelled part;
+    after = λ k h. bit-same c b k (after (k / 8) (omega arith));
+  })
+
+  -- as the program has it
+  pub stored : {k v : ℕ} {ys : List ℕ} → k ≡ n → ys ≡ l → spelled l ≡ v → put_mid f k b ys ≡ put b (8 * f) (8 * n) v
+  stored p q r = rw (p, q, ← r) written
+
+-- the bytes of a number of 64 bits, the highest first, spell it; and the first n of them its upper bits
+pub bytes_of : (n x : ℕ) → AreBytes (bytes_high_first n x)
+bytes_of zero x i = lit< tt
+bytes_of (suc n) x zero = last n
   where
-    dec_eq : (k : ℕ) → Dec (k ≡ i)
-    dec_eq k = ℕ_discrete k i
+    last : (k : ℕ) → byte_at k x < 256
+    last zero = mod-lt x (lit< tt)
+    last (suc k) = mod-lt (x / 256 ^ suc k) (lit< tt)
+bytes_of (suc n) x (suc i) = bytes_of n x i
 
-    stored : (k : ℕ) → Dec (k ≡ i) → byte (set c i y) k < 256
-    stored k (yes e) = rw (e, get_or-set_same c i y 0 l) small
-    stored k (no n) = rw (get_or-set_other c i k y 0 n) (h k)
+pub first-bytes : (x n : ℕ) → x < 2 ^ 64 → n ≤ 8 → spelled (take n (to_be_bytes w64 x)) ≡ x / 2 ^ (64 - 8 * n)
+first-bytes x n small most =
+    let all = to_be_bytes w64 x in
+    let len : 64 ≡ 8 * n + (64 - 8 * n) = omega arith in
+    let whole : value all 0 64 ≡ x = value-be all (bytes_of 8 x) 0 8 ∙ sym (be_eight all) ∙ from_be_bytes-to_be_bytes_8 x small in
+    part-spelled all 0 n (omega arith) ∙ sym (num-first (bit all) (bit-lt all) 0 (8 * n) (64 - 8 * n)) ∙ ap (λ (m : ℕ). value all 0 m / 2 ^ (64 - 8 * n)) (sym len)
+    ∙ ap (λ (v : ℕ). v / 2 ^ (64 - 8 * n)) whole
 
--- i bytes stored from byte f on, and one more at k, which comes next
-pub one-byte-more : (b c : List ℕ) (f i k hi y : ℕ) → k ≡ f + i → c ≡ put b (8 * f) (8 * i) hi → k < length b → y < 256 → set c k y ≡ put b (8 * f) (8 * (i + 1)) (hi * 256 + y)
-one-byte-more b c f i k hi y next e l small =
-    let at : 8 * k ≡ 8 * f + 8 * i = omega arith in
-    let len : 8 * i + 8 ≡ 8 * (i + 1) = omega arith in
-    rw e (set-put (put b (8 * f) (8 * i) hi) k y (put-bytes b (8 * f) (8 * i) hi) (rw (put-length b (8 * f) (8 * i) hi) l) small)
-    ∙ ap (λ (t : ℕ). put (put b (8 * f) (8 * i) hi) t 8 y) at ∙ side_by_side b (8 * f) (8 * i) 8 hi y small
-    ∙ ap (λ (n : ℕ). put b (8 * f) n (hi * 256 + y)) len
+-- and zeros spell 0
+pub spelled-zeros : (n : ℕ) → spelled (replicate n 0) ≡ 0
+unfolding bit
+spelled-zeros n = num-digits (bit (replicate n 0)) 0 (8 * length (replicate n 0)) 0 (λ j h. rw (zeros n ((0 + j) / 8)) (omega arith)) ∙ zero-mod (2 ^ (8 * length (replicate n 0)))
 
--- no byte yet
-pub no-byte-yet : (b : List ℕ) (f : ℕ) → AreBytes b → b ≡ put b (8 * f) (8 * 0) 0
-unfolding num
-no-byte-yet b f h = sym (write_read b (8 * f) 0 h)
+-- ---- the answers, by what they are
 
--- of the 8 bytes of x, none, and the first i and one more
-pub first_byte : (x : ℕ) → x < 2 ^ 64 → x / 2 ^ (64 - 8 * 0) ≡ 0
-first_byte x h = div-eq_of_lt h
-
-pub next-byte : (x i : ℕ) → i < 8 → x / 2 ^ (64 - 8 * i) * 256 + x / 2 ^ (56 - 8 * i) % 256 ≡ x / 2 ^ (64 - 8 * (i + 1))
-next-byte x i h =
-    let above : 64 - 8 * i ≡ (56 - 8 * i) + 8 = omega arith in
-    let last : 64 - 8 * (i + 1) ≡ 56 - 8 * i = omega arith in
-    rw (above, last, ← (shr-shr x (56 - 8 * i) 8)) (split (x / 2 ^ (56 - 8 * i)) 8)
-
--- n bytes as a number, the lowest first, and each found where it stands
-lowest-first : (ℕ → ℕ) → ℕ → ℕ
-lowest-first f zero = 0
-lowest-first f (suc n) = f 0 + 256 * lowest-first (λ i. f (suc i)) n
-
-lowest-lt : (f : ℕ → ℕ) (n : ℕ) → ((j : ℕ) → f j < 256) → lowest-first f n < 2 ^ (8 * n)
-unfolding lowest-first
-lowest-lt f zero h = lit< tt
-lowest-lt f (suc n) h =
-    let more : 8 * suc n ≡ 8 + 8 * n = omega arith in
-    rw (more, pow-add 2 8 (8 * n)) (omega (arith, h 0, lowest-lt (λ j. f (suc j)) n (λ j. h (suc j))))
-
-lowest-at : (f : ℕ → ℕ) (n i : ℕ) → ((j : ℕ) → f j < 256) → i < n → lowest-first f n / 2 ^ (8 * i) % 256 ≡ f i
-unfolding lowest-first
-lowest-at f zero i h l = absurd (omega arith)
-lowest-at f (suc n) zero h l = omega (arith, h 0)
-lowest-at f (suc n) (suc i) h l =
-    let further : 8 * suc i ≡ 8 + 8 * i = omega arith in
-    let rest : (f 0 + 256 * lowest-first (λ j. f (suc j)) n) / 2 ^ 8 ≡ lowest-first (λ j. f (suc j)) n = omega (arith, h 0) in
-    rw (further, ← (shr-shr (f 0 + 256 * lowest-first (λ j. f (suc j)) n) 8 (8 * i)), rest) (lowest-at (λ j. f (suc j)) n i (λ j. h (suc j)) (omega arith))
-
--- so the highest bytes of x put lowest are x with its bytes in the other order
-abbrev pub other_order : ℕ → ℕ
-other_order x =
-    x / 2 ^ 56 % 256 + 256 * (x / 2 ^ 48 % 256) + 65536 * (x / 2 ^ 40 % 256) + 16777216 * (x / 2 ^ 32 % 256)
-    + 4294967296 * (x / 2 ^ 24 % 256 + 256 * (x / 2 ^ 16 % 256) + 65536 * (x / 2 ^ 8 % 256) + 16777216 * (x % 256))
-
-nested : (a b c d e f g h : ℕ) → a + 256 * b + 65536 * c + 16777216 * d + 4294967296 * (e + 256 * f + 65536 * g + 16777216 * h)
-    ≡ a + 256 * (b + 256 * (c + 256 * (d + 256 * (e + 256 * (f + 256 * (g + 256 * (h + 256 * 0)))))))
-nested a b c d e f g h = omega arith
-
-reversed-lowest : (x : ℕ) → other_order x ≡ lowest-first (λ j. x / 2 ^ (56 - 8 * j) % 256) 8
-unfolding lowest-first
-reversed-lowest x =
-    let last : x % 256 ≡ x / 2 ^ 0 % 256 = ap (λ (y : ℕ). y % 256) (sym (div-one x)) in
-    rw last (nested _ _ _ _ _ _ _ _)
-
-pub reversed-bytes : (x i : ℕ) → i < 8 → other_order x / 2 ^ (8 * i) % 256 ≡ x / 2 ^ (56 - 8 * i) % 256
-reversed-bytes x i h = ap (λ (y : ℕ). y / 2 ^ (8 * i) % 256) (reversed-lowest x) ∙ lowest-at (λ j. x / 2 ^ (56 - 8 * j) % 256) 8 i (λ j. mod-lt (x / 2 ^ (56 - 8 * j)) (lit< tt)) h
-
-pub reversed-fits : (x : ℕ) → other_order x < 2 ^ 64
-reversed-fits x =
-    rw (reversed-lowest x) (lowest-lt (λ j. x / 2 ^ (56 - 8 * j) % 256) 8 (λ j. mod-lt (x / 2 ^ (56 - 8 * j)) (lit< tt)))
-
--- ---- whether a run fits
-
--- one answer is no other: so it would be one of numbers
-never : {X : Type 0} → ◌≡◌ {A = ℕ} 0 1 → X
-never z = absurd (omega arith)
-
-module _ (n h s w : ℕ) where
-  pub fit_wide : 8 < touched s w → fit_of n h s w ≡ Fit.TooWide
-  unfolding fit_of
-  fit_wide l = rw (lt-ltb 8 (touched s w) l)
-
-  pub fit-outside : touched s w ≤ 8 → h < s / 8 + touched s w → fit_of n h s w ≡ Fit.Outside
-  unfolding fit_of
-  fit-outside l m = rw (le-ltb 8 (touched s w) l, lt-ltb (8 * h) (s + w) (omega arith))
-
-  pub fit-short : touched s w ≤ 8 → s / 8 + touched s w ≤ h → n < h → fit_of n h s w ≡ Fit.Short
-  unfolding fit_of
-  fit-short l m t = rw (le-ltb 8 (touched s w) l, le-ltb (8 * h) (s + w) (omega arith), lt-ltb n h t)
-
-  pub fit-fits : touched s w ≤ 8 → s + w ≤ 8 * h → h ≤ n → fit_of n h s w ≡ Fit.Fits
-  unfolding fit_of
-  fit-fits l m t = rw (le-ltb 8 (touched s w) l, le-ltb (8 * h) (s + w) m, le-ltb n h t)
-
-  -- what is true of each of the four, where it is that, is true of what the run is
-  pub by-fit : (P : Fit → Type 0) → (8 < touched s w → P Fit.TooWide) → (touched s w ≤ 8 → 8 * h < s + w → P Fit.Outside)
-      → (touched s w ≤ 8 → s + w ≤ 8 * h → n < h → P Fit.Short) → (touched s w ≤ 8 → s + w ≤ 8 * h → h ≤ n → P Fit.Fits) → P (fit_of n h s w)
-  by-fit P wide outside short fits = go (dec_lt 8 (touched s w)) (dec_lt (8 * h) (s + w)) (dec_lt n h)
-    where
-      go : Dec (8 < touched s w) → Dec (8 * h < s + w) → Dec (n < h) → P (fit_of n h s w)
-      go (yes l) _ _ = rw (fit_wide l) (wide l)
-      go (no l) (yes m) _ = rw (fit-outside (omega arith) (omega arith)) (outside (omega arith) m)
-      go (no l) (no m) (yes t) = rw (fit-short (omega arith) (omega arith) t) (short (omega arith) (omega arith) t)
-      go (no l) (no m) (no t) = rw (fit-fits (omega arith) (omega arith) (omega arith)) (fits (omega arith) (omega arith) (omega arith))
-
-  -- what it means to fit
-  pub fits-is : fits (fit_of n h s w) ≡ true → fit_of n h s w ≡ Fit.Fits
-  fits-is = of (fit_of n h s w)
-    where
-      of : (f : Fit) → fits f ≡ true → f ≡ Fit.Fits
-      of Fit.Fits e = refl
-      of Fit.TooWide e = clash (sym e)
-      of Fit.Outside e = clash (sym e)
-      of Fit.Short e = clash (sym e)
-
-  pub fits-narrow : fit_of n h s w ≡ Fit.Fits → (s % 8 + w ≤ 64) × (s + w ≤ 8 * n)
-  fits-narrow =
-      by-fit (λ (f : Fit). f ≡ Fit.Fits → (s % 8 + w ≤ 64) × (s + w ≤ 8 * n))
-      (λ _ e. never (cc)) (λ _ _ e. never (cc)) (λ _ _ _ e. never (cc)) (λ l m t _. (omega arith, omega arith))
-
--- ---- whole bytes in a buffer
-
-module _ (n h f c : ℕ) where
-  pub bytes-outside : h < f + c → bytes_answer n h f c ≡ BytesWrite.Outside
-  unfolding bytes_answer
-  bytes-outside l = rw (lt-ltb h (f + c) l)
-
-  pub bytes-short : f + c ≤ h → n < h → bytes_answer n h f c ≡ BytesWrite.Short
-  unfolding bytes_answer
-  bytes-short l m = rw (le-ltb h (f + c) l, lt-ltb n h m)
-
-  pub bytes-done : f + c ≤ h → h ≤ n → bytes_answer n h f c ≡ BytesWrite.Done
-  unfolding bytes_answer
-  bytes-done l m = rw (le-ltb h (f + c) l, le-ltb n h m)
-
-  -- what is true of each of the three, where it is that, is true of the answer
-  pub by_place : (P : BytesWrite → Type 0) → (h < f + c → P BytesWrite.Outside) → (f + c ≤ h → n < h → P BytesWrite.Short) → (f + c ≤ h → h ≤ n → P BytesWrite.Done)
-      → P (bytes_answer n h f c)
-  by_place P outside short done = go (dec_lt h (f + c)) (dec_lt n h)
-    where
-      go : Dec (h < f + c) → Dec (n < h) → P (bytes_answer n h f c)
-      go (yes l) _ = rw (bytes-outside l) (outside l)
-      go (no l) (yes m) = rw (bytes-short (omega arith) m) (short (omega arith) m)
-      go (no l) (no m) = rw (bytes-done (omega arith) (omega arith)) (done (omega arith) (omega arith))
-
-  -- where it is done, they lie in the buffer
-  pub bytes-within : bytes_answer n h f c ≡ BytesWrite.Done → f + c ≤ n
-  bytes-within = by_place (λ (r : BytesWrite). r ≡ BytesWrite.Done → f + c ≤ n) (λ _ e. never (cc)) (λ _ _ e. never (cc)) (λ l m _. omega arith)
-
--- ---- the answers, by whether the run fits
-
-pub read_is : (b : List ℕ) (h s w : ℕ) (f : Fit) → fit_of (length b) h s w ≡ f → read_number b h s w ≡ read_as f (value b s w)
-unfolding read_number
-read_is b h s w f e = ap (λ (x : Fit). read_as x (value b s w)) e
-
--- a run that does not fit is not seen
-pub unseen : (b : List ℕ) (h s w : ℕ) → fits (fit_of (length b) h s w) ≡ false → seen (read_number b h s w) ≡ NumberSeen.None
-unfolding read_number
-unseen b h s w = of (fit_of (length b) h s w)
+-- what is true of each of the four, where it is that, is true of what the run is
+pub by-fit : (n h s w : ℕ) (P : RunCheck → Type 0)
+    → (8 < touched s w → P (Err RunFault.TooWide)) → (touched s w ≤ 8 → 8 * h < s + w → P (Err RunFault.Outside))
+    → (touched s w ≤ 8 → s + w ≤ 8 * h → n < h → P (Err RunFault.Short)) → (touched s w ≤ 8 → s + w ≤ 8 * h → h ≤ n → P (Ok tt)) → P (fit_of n h s w)
+unfolding fit_of
+by-fit n h s w P wide outside short fits = go (dec_lt 8 (touched s w)) (dec_lt (8 * h) (s + w)) (dec_lt n h)
   where
-    of : (f : Fit) → fits f ≡ false → seen (read_as f (value b s w)) ≡ NumberSeen.None
-    of Fit.Fits e = clash e
-    of Fit.TooWide e = refl
-    of Fit.Outside e = refl
-    of Fit.Short e = refl
+    go : Dec (8 < touched s w) → Dec (8 * h < s + w) → Dec (n < h) → P (fit_of n h s w)
+    go (yes l) _ _ = rw (lt-ltb 8 (touched s w) l) (wide l)
+    go (no l) (yes m) _ = rw (le-ltb 8 (touched s w) (omega arith), lt-ltb (8 * h) (s + w) m) (outside (omega arith) m)
+    go (no l) (no m) (yes t) = rw (le-ltb 8 (touched s w) (omega arith), le-ltb (8 * h) (s + w) (omega arith), lt-ltb n h t) (short (omega arith) (omega arith) t)
+    go (no l) (no m) (no t) = rw (le-ltb 8 (touched s w) (omega arith), le-ltb (8 * h) (s + w) (omega arith), le-ltb n h (omega arith)) (fits (omega arith) (omega arith) (omega arith))
 
-pub write-is : (n h s w v : ℕ) (f : Fit) → fit_of n h s w ≡ f → write_answer n h s w v ≡ write_as f w v
-unfolding write_answer
-write-is n h s w v f e = ap (λ (x : Fit). write_as x w v) e
-
-pub write-large : (n h s w v : ℕ) → fit_of n h s w ≡ Fit.Fits → ltb v (2 ^ w) ≡ false → write_answer n h s w v ≡ NumberWrite.TooLarge
-write-large n h s w v e t = write-is n h s w v Fit.Fits e ∙ ap (λ (t : Bool). cond t NumberWrite.Done NumberWrite.TooLarge) t
-
-pub write_done : (n h s w v : ℕ) → fit_of n h s w ≡ Fit.Fits → ltb v (2 ^ w) ≡ true → write_answer n h s w v ≡ NumberWrite.Done
-write_done n h s w v e t = write-is n h s w v Fit.Fits e ∙ ap (λ (t : Bool). cond t NumberWrite.Done NumberWrite.TooLarge) t
-
--- the part of a buffer that an answer gives: from f up to e, which comes c bytes later, or none
--- a write is done where the run fits and holds the number
-pub done-is : (n h s w v : ℕ) → is_done (write_answer n h s w v) ≡ (fits (fit_of n h s w) && ltb v (2 ^ w))
-unfolding write_answer
-done-is n h s w v = of (fit_of n h s w) (ltb v (2 ^ w)) refl
+-- and of each of the three, of whole bytes
+pub by_place : (n h f c : ℕ) (P : RunCheck → Type 0) → (h < f + c → P (Err RunFault.Outside)) → (f + c ≤ h → n < h → P (Err RunFault.Short)) → (f + c ≤ h → h ≤ n → P (Ok tt))
+    → P (bytes_answer n h f c)
+unfolding bytes_answer
+by_place n h f c P outside short done = go (dec_lt h (f + c)) (dec_lt n h)
   where
-    of : (f : Fit) (small : Bool) → ltb v (2 ^ w) ≡ small → is_done (write_as f w v) ≡ (fits f && small)
-    of Fit.Fits true e = rw e
-    of Fit.Fits false e = rw e
-    of Fit.TooWide small e = refl
-    of Fit.Outside small e = refl
-    of Fit.Short small e = refl
-
-pub bytes-part : (b : List ℕ) (h f c : ℕ) (r : BytesWrite) → r ≡ bytes_answer (length b) h f c → bytes_as r (take c (drop f b)) ≡ bytes_at b h f c
-unfolding bytes_at
-bytes-part b h f c r e = ap (λ (x : BytesWrite). bytes_as x (take c (drop f b))) e
+    go : Dec (h < f + c) → Dec (n < h) → P (bytes_answer n h f c)
+    go (yes l) _ = rw (lt-ltb h (f + c) l) (outside l)
+    go (no l) (yes m) = rw (le-ltb h (f + c) (omega arith), lt-ltb n h m) (short (omega arith) m)
+    go (no l) (no m) = rw (le-ltb h (f + c) (omega arith), le-ltb n h (omega arith)) (done (omega arith) (omega arith))

@@ -12,12 +12,11 @@ use lib.ListN.{length, take, drop, length-drop}
 use lib.Pow.{pow_pos, pow-add, shr-shr, high}
 use lib.Seq.{length-take-le, get_or-take, get_or-drop}
 use borrow.Author.Tests.{lt-ltb, le-ltb}
+use Rattle.std.specs.Prelude.{Ok}
 use Rattle.octets.specs.Octets.{AreBytes, byte}
 use Rattle.bits.specs.Bits.{bit, value, spelled, touched}
-use Rattle.bits.specs.declared.NumberWrite.{NumberWrite}
-use Rattle.bits.specs.declared.BytesWrite.{BytesWrite}
 use Rattle.bits.specs.Writes.{Wrote, new_bit, put, put_bytes}
-use Rattle.bits.specs.Runs.{fit_of, write_answer, after_number, NumberWritten, bytes_answer, after_bytes, BytesWritten}
+use Rattle.bits.specs.Runs.{RunCheck, after_write, fit_of, write_answer, NumberWritten, bytes_answer, BytesWritten}
 use Rattle.bits.proofs.Num.{num-ext, num-inj, num-digits, num-at}
 use Rattle.octets.proofs.Octets.{bytes_take, bytes_drop}
 use Rattle.bits.proofs.Bits.{bit-lt, bit_moved, bits-ext, spelled-ext, value-lt, value-byte}
@@ -195,27 +194,27 @@ write-bytes-read b f n h within =
 -- ---- the contracts of the writes: one answer, and one buffer after it
 
 -- where the answer is given, and the buffer by the answer
-written_one : {A : Type 0} {a q r : A} {c d : List ℕ} (after : A → List ℕ) → q ≡ a → r ≡ a → c ≡ after q → d ≡ after r → (q ≡ r) × (c ≡ d)
-written_one after x y f g = let same = x ∙ sym y in (same, f ∙ ap after same ∙ sym g)
+written_one : (b w : List ℕ) {c d : List ℕ} {a q r : RunCheck} → q ≡ a → r ≡ a → c ≡ after_write q b w → d ≡ after_write r b w → (q ≡ r) × (c ≡ d)
+written_one b w x y f g =
+    let same = x ∙ sym y in (same, f ∙ ap (λ (r : RunCheck). after_write r b w) same ∙ sym g)
 
-pub number-written-one : {b c d : List ℕ} {h s w v : ℕ} {q r : NumberWrite} → NumberWritten b c h s w v q → NumberWritten b d h s w v r → (q ≡ r) × (c ≡ d)
-number-written-one {b} {s = s} {w} {v} x y =
-    written_one (λ (q : NumberWrite). after_number q b (put b s w v)) x.answer y.answer x.bytes y.bytes
+pub number-written-one : {b c d : List ℕ} {h s w v : ℕ} {q r : RunCheck} → NumberWritten b c h s w v q → NumberWritten b d h s w v r → (q ≡ r) × (c ≡ d)
+number-written-one x y = written_one _ _ x.answer y.answer x.bytes y.bytes
 
-pub bytes-written-one : {b c d : List ℕ} {h f n v : ℕ} {q r : BytesWrite} → BytesWritten b c h f n v q → BytesWritten b d h f n v r → (q ≡ r) × (c ≡ d)
-bytes-written-one {b} {f = f} {n} {v} x y =
-    written_one (λ (q : BytesWrite). after_bytes q b (put b (8 * f) (8 * n) v)) x.answer y.answer x.bytes y.bytes
+pub bytes-written-one : {b c d : List ℕ} {h f n v : ℕ} {q r : RunCheck} → BytesWritten b c h f n v q → BytesWritten b d h f n v r → (q ≡ r) × (c ≡ d)
+bytes-written-one x y = written_one _ _ x.answer y.answer x.bytes y.bytes
 
 -- ---- and where nothing stands against a write, the buffer is the one that `put` gives
 
-pub number_put : {b c : List ℕ} {h s w v : ℕ} {r : NumberWrite} → touched s w ≤ 8 → s + w ≤ 8 * h → h ≤ length b → v < 2 ^ w → NumberWritten b c h s w v r → c ≡ put b s w v
+written_put : (b w : List ℕ) {c : List ℕ} {a r : RunCheck} → r ≡ a → a ≡ Ok tt → c ≡ after_write r b w → c ≡ w
+written_put b w x done f = f ∙ ap (λ (r : RunCheck). after_write r b w) (x ∙ done)
+
+pub number_put : {b c : List ℕ} {h s w v : ℕ} {r : RunCheck} → touched s w ≤ 8 → s + w ≤ 8 * h → h ≤ length b → v < 2 ^ w → NumberWritten b c h s w v r → c ≡ put b s w v
 unfolding write_answer fit_of
 number_put {b} {h = h} {s} {w} {v} narrow within long small x =
-    let done : write_answer (length b) h s w v ≡ NumberWrite.Done = rw (le-ltb 8 (touched s w) narrow, le-ltb (8 * h) (s + w) within, le-ltb (length b) h long, lt-ltb v (2 ^ w) small) in
-    x.bytes ∙ ap (λ (q : NumberWrite). after_number q b (put b s w v)) (x.answer ∙ done)
+    written_put _ _ x.answer (rw (le-ltb 8 (touched s w) narrow, le-ltb (8 * h) (s + w) within, le-ltb (length b) h long, lt-ltb v (2 ^ w) small)) x.bytes
 
-pub bytes-put : {b c : List ℕ} {h f n v : ℕ} {r : BytesWrite} → f + n ≤ h → h ≤ length b → BytesWritten b c h f n v r → c ≡ put b (8 * f) (8 * n) v
+pub bytes-put : {b c : List ℕ} {h f n v : ℕ} {r : RunCheck} → f + n ≤ h → h ≤ length b → BytesWritten b c h f n v r → c ≡ put b (8 * f) (8 * n) v
 unfolding bytes_answer
 bytes-put {b} {h = h} {f} {n} {v} within long x =
-    let done : bytes_answer (length b) h f n ≡ BytesWrite.Done = rw (le-ltb h (f + n) within, le-ltb (length b) h long) in
-    x.bytes ∙ ap (λ (q : BytesWrite). after_bytes q b (put b (8 * f) (8 * n) v)) (x.answer ∙ done)
+    written_put _ _ x.answer (rw (le-ltb h (f + n) within, le-ltb (length b) h long)) x.bytes

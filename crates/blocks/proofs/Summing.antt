@@ -3,14 +3,18 @@
 use mathlib.Core.Path.{◌≡◌, refl, sym, ap, ◌∙◌}
 use mathlib.Core.Bool.{false}
 use mathlib.Core.List.{List, [], ◌∷◌, map}
-use Prim.Native.Nat.{ℕ, suc, ◌+◌, ◌-◌, ◌*◌, ◌/◌, ◌%◌, ◌≤◌, ◌<◌}
+use Prim.Native.Nat.{ℕ, zero, suc, ◌+◌, ◌-◌, ◌*◌, ◌/◌, ◌%◌, ◌≤◌, ◌<◌}
 use native.Mathlib.Decide.{dec_lt}
 use native.Mathlib.Omega.{arith}
 use lib.Dec.{eqb}
-use lib.ListN.{length, drop}
-use lib.Seq.{drop-cons}
+use lib.ListN.{length, take}
+use lib.Seq.{take_all}
+use Rattle.std.specs.Int.{w32, from_le_bytes}
+use Rattle.std.specs.List.{sum_by}
+use Rattle.std.proofs.lemmas.List.Sums.{sum_by-cons}
+use Rattle.std.specs.Simd.{first_chunks}
 use borrow.Author.Tests.{ne_eqb}
-use Rattle.octets.specs.Octets.{AreBytes, byte}
+use Rattle.octets.specs.Octets.{AreBytes}
 use Rattle.blocks.specs.Ones.{words, AreWords, ones_sum}
 use Rattle.blocks.specs.Check.{check_holds}
 use Rattle.blocks.specs.Working.{swapped, plain_sum, folded, Are32Bits, halves}
@@ -27,16 +31,26 @@ fours (a ∷ b ∷ []) = []
 fours (a ∷ b ∷ c ∷ []) = []
 fours (a ∷ b ∷ c ∷ d ∷ s) = (((d * 256 + c) * 256 + b) * 256 + a) ∷ fours s
 
-pub fours-more : (s : List ℕ) (i : ℕ) → i + 3 < length s
-    → fours (drop i s) ≡ (((byte s (i + 3) * 256 + byte s (i + 2)) * 256 + byte s (i + 1)) * 256 + byte s i) ∷ fours (drop (i + 4) s)
-unfolding fours
-fours-more s i h =
-    let one : i + 1 ≡ suc i = omega arith in
-    let two : i + 2 ≡ suc (suc i) = omega arith in
-    let three : i + 3 ≡ suc (suc (suc i)) = omega arith in
-    let four : i + 4 ≡ suc (suc (suc (suc i))) = omega arith in
-    rw (one, two, three, four, drop-cons s i 0 (omega arith), drop-cons s (suc i) 0 (omega arith), drop-cons s (suc (suc i)) 0 (omega arith))
-    (rw (drop-cons s (suc (suc (suc i))) 0 (omega arith)))
+-- the library's number of four bytes, and the chunks of four of a whole number of them
+unfoldable pub number_of : List ℕ → ℕ
+number_of s = from_le_bytes w32 s
+
+pub number-is : (s : List ℕ) {n : ℕ} → n ≡ from_le_bytes w32 s → n ≡ number_of s
+unfolding number_of
+number-is s e = e
+
+fours-summed : (n : ℕ) (s : List ℕ) → length s ≡ 4 * n → sum_by number_of (first_chunks 4 n s) ≡ plain_sum (fours s)
+unfolding number_of fours plain_sum
+fours-summed zero [] e = refl
+fours-summed zero (a ∷ s) e = absurd (omega arith)
+fours-summed (suc n) [] e = absurd (omega arith)
+fours-summed (suc n) (a ∷ []) e = absurd (omega arith)
+fours-summed (suc n) (a ∷ b ∷ []) e = absurd (omega arith)
+fours-summed (suc n) (a ∷ b ∷ c ∷ []) e = absurd (omega arith)
+fours-summed (suc n) (a ∷ b ∷ c ∷ d ∷ s) e =
+    let one : sum_by number_of (first_chunks 4 (suc n) (a ∷ b ∷ c ∷ d ∷ s)) ≡ number_of (a ∷ b ∷ c ∷ d ∷ []) + sum_by number_of (first_chunks 4 n s) =
+    sum_by-cons number_of (a ∷ b ∷ c ∷ d ∷ []) (first_chunks 4 n s) in
+    omega (arith, one, fours-summed n s (omega arith))
 
 fours-32 : (s : List ℕ) → AreBytes s → Are32Bits (fours s)
 unfolding fours
@@ -80,6 +94,14 @@ fours-folded s h e =
     ∙ ap folded (fours-halved 128 s h e)
     ∙ sym (ones-folded (map swapped (words s)) (exchanged-words (words s) are_words))
     ∙ any-byte-order (words s) are_words
+
+-- as the program adds them up: all chunks of four taken
+pub chunks-folded : (s : List ℕ) → AreBytes s → length s ≡ 512 → {k sum : ℕ} {items : List (List ℕ)} → items ≡ first_chunks 4 (length s / 4) s
+    → length items ≤ k → sum ≡ sum_by number_of (take k items) → folded sum ≡ swapped (ones_sum (words s))
+chunks-folded s h e {k = k} {items = items} is l so =
+    let quarter : length s / 4 ≡ 128 = omega arith in
+    let all : sum_by number_of (take k items) ≡ plain_sum (fours s) = ap (sum_by number_of) (take_all k items l ∙ is) ∙ rw quarter (fours-summed 128 s e) in
+    rw (so, all) (fours-folded s h e)
 
 -- ---- the check
 

@@ -6,18 +6,16 @@ ghost use Rattle.blocks.specs.Check.{check_holds};
 ghost use Rattle.blocks.specs.Working.{swapped, folded};
 
 use super::SIZE;
-use octets::of_four;
 
 // The words of a block, added up two at a time and with their bytes exchanged: compiled, plain loads. By the RFC the sum has its bytes exchanged then.
 fn total(b: &[u8]) -> u64
     requires { length b.now ≡ block_size }
     ensures { folded result ≡ swapped (ones_sum (words b.now)) }
 {
-    let mut sum: u64 = 0;
-    let mut i = 0;
-    while i < SIZE {
-        sum += of_four(b[i + 3], b[i + 2], b[i + 1], b[i]);
-        i += 4;
+    let (fours, _) = b.as_chunks();
+    let mut sum = 0;
+    for four in fours {
+        sum += u64::from(u32::from_le_bytes(*four));
     }
     sum
 }
@@ -36,8 +34,5 @@ fn fold(t: u64) -> u16
 pub fn check_holds(b: &[u8]) -> bool
     ensures { result ≡ check_holds b.now }
 {
-    if b.len() != SIZE {
-        return false;
-    }
-    fold(total(b)) == 65535
+    b.len() == SIZE && fold(total(b)) == 65535
 }

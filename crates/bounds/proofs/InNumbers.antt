@@ -3,21 +3,17 @@
 use mathlib.Core.Path.{◌≡◌, refl, sym, ap, ◌∙◌}
 use mathlib.Core.Bool.{Bool, true, false, cond, not, ◌&&◌, and-true, and-false, and_comm, and_assoc, not-not}
 use mathlib.Core.Logic.{◌↔◌}
-use mathlib.Core.Option.{none, some, some-injective}
+use Rattle.std.specs.Prelude.{None, Some}
 use Prim.Native.Nat.{ℕ, suc, ◌+◌, ◌-◌, ◌^◌, ◌≤◌, ◌<◌}
 use native.Mathlib.Numerals.{add-one}
 use native.Mathlib.Omega.{arith}
 use lib.Dec.{leb, ltb, leb-suc-suc}
 use borrow.Author.Tests.{lt-ltb, le-leb, lt-leb, ltb-true, leb-true, leb-false, not-true}
 use Rattle.answer.specs.Paper.{gives}
-use Rattle.answer.proofs.OneToOne.{refusal-one}
 use Rattle.answer.proofs.Tests.{same_test, both_hold, and_is}
-use Rattle.bounds.specs.declared.Bound.{Bound}
+use Rattle.std.specs.declared.ops.Bound.{Bound}
 use Rattle.bounds.specs.declared.CondBounds.{CondBounds}
-use Rattle.bounds.specs.declared.Emptiness.{Emptiness}
-use Rattle.bounds.specs.declared.Intersection.{Intersection}
-use Rattle.bounds.specs.declared.FirstLast.{FirstLast}
-use Rattle.bounds.specs.Bounds.{from_start, to_end, inside, first_of, holds_none, later, meets, clipped_end, clipped, is_excluded, empty_from, is_empty, starts_later, ends_earlier, common, intersection, last_of, first_last, emptiness_says, intersection_says, first_last_says}
+use Rattle.bounds.specs.Bounds.{from_start, to_end, inside, first_of, holds_none, later, meets, clipped_end, clipped, is_excluded, empty_from, is_empty, starts_later, ends_earlier, common, intersection, last_of, first_last}
 
 -- ---- tests
 
@@ -38,12 +34,12 @@ less-is m n = same_test (ltb m n) (not (leb n m)) (λ e. rw (lt-leb n m (ltb-tru
 -- ---- one of two bounds
 
 -- what holds of both holds of the chosen one
-either : (P : Bound → Type 0) (test : Bool) {a b : Bound} → P a → P b → P (cond test a b)
+either : (P : Bound ℕ → Type 0) (test : Bool) {a b : Bound ℕ} → P a → P b → P (cond test a b)
 either P true p q = p
 either P false p q = q
 
 -- where the one that is chosen says more than the other, it says what both say
-chosen : (f : Bound → Bool) (test : Bool) (a b : Bound) → (test ≡ true → f a ≡ true → f b ≡ true) → (test ≡ false → f b ≡ true → f a ≡ true)
+chosen : (f : Bound ℕ → Bool) (test : Bool) (a b : Bound ℕ) → (test ≡ true → f a ≡ true → f b ≡ true) → (test ≡ false → f b ≡ true → f a ≡ true)
     → f (cond test a b) ≡ (f a && f b)
 chosen f true a b p q = absorbs (f a) (f b) (p refl)
 chosen f false a b p q = absorbs (f b) (f a) (q refl) ∙ and_comm (f b) (f a)
@@ -51,22 +47,22 @@ chosen f false a b p q = absorbs (f b) (f a) (q refl) ∙ and_comm (f b) (f a)
 -- ---- starts and ends
 
 -- not before the start: from the number that it begins with
-from_is : (b : Bound) (n : ℕ) → from_start b n ≡ leb (first_of b) n
+from_is : (b : Bound ℕ) (n : ℕ) → from_start b n ≡ leb (first_of b) n
 from_is Bound.Unbounded n = sym (le-leb 0 n (omega arith))
 from_is (Bound.Included a) n = refl
 from_is (Bound.Excluded a) n = rw add-one
 
-begins : (b : Bound) (n : ℕ) → from_start b n ≡ true → first_of b ≤ n
+begins : (b : Bound ℕ) (n : ℕ) → from_start b n ≡ true → first_of b ≤ n
 begins b n t = leb-true (first_of b) n (sym (from_is b n) ∙ t)
 
 -- what lies before a number that is not past the end is not past it either
-end_before : (b : Bound) (m n : ℕ) → m ≤ n → to_end b n ≡ true → to_end b m ≡ true
+end_before : (b : Bound ℕ) (m n : ℕ) → m ≤ n → to_end b n ≡ true → to_end b m ≡ true
 end_before Bound.Unbounded m n h t = refl
 end_before (Bound.Included e) m n h t = le-leb m e (omega (arith, leb-true))
 end_before (Bound.Excluded e) m n h t = lt-ltb m e (omega (arith, leb-true))
 
 -- where the end lies between two numbers, the one that is not past it is the smaller
-end-between : (b : Bound) (m n : ℕ) → to_end b m ≡ false → to_end b n ≡ true → n < m
+end-between : (b : Bound ℕ) (m n : ℕ) → to_end b m ≡ false → to_end b n ≡ true → n < m
 end-between Bound.Unbounded m n p t = absurd (let z : ◌≡◌ {A = ℕ} 0 1 = cc in omega arith)
 end-between (Bound.Included e) m n p t = omega (arith, leb-true, leb-false)
 end-between (Bound.Excluded e) m n p t = omega (arith, leb-true, leb-false)
@@ -112,7 +108,7 @@ meets-is r q = (λ t. let two = both_hold (inside r n) (inside q n) t in (n, two
 -- ---- the end cut at a largest number
 
 -- the cut end says what the end and the largest number say
-end-clipped : (b : Bound) (most n : ℕ) → to_end (clipped_end b most) n ≡ (to_end b n && leb n most)
+end-clipped : (b : Bound ℕ) (most n : ℕ) → to_end (clipped_end b most) n ≡ (to_end b n && leb n most)
 end-clipped Bound.Unbounded most n = refl
 end-clipped (Bound.Included e) most n =
     chosen (λ c. to_end c n) (ltb most e) (Bound.Included most) (Bound.Included e)
@@ -132,7 +128,7 @@ clipped-inside r most n = rw (end-clipped r.end most n) (sym (and_assoc (from_st
 -- ---- what two ranges have in common
 
 -- the later start and the earlier end each say what both say
-start-common : (a b : Bound) (n : ℕ) → is_excluded a ≡ false → from_start (cond (starts_later a b) a b) n ≡ (from_start a n && from_start b n)
+start-common : (a b : Bound ℕ) (n : ℕ) → is_excluded a ≡ false → from_start (cond (starts_later a b) a b) n ≡ (from_start a n && from_start b n)
 start-common Bound.Unbounded b n x = refl
 start-common (Bound.Included a) b n x =
     chosen (λ c. from_start c n) (from_start b a) (Bound.Included a) b
@@ -140,7 +136,7 @@ start-common (Bound.Included a) b n x =
     (λ p t. le-leb a n (omega (arith, begins b n t, leb-false (first_of b) a (sym (from_is b a) ∙ p))))
 start-common (Bound.Excluded a) b n x = cc
 
-end-common : (a b : Bound) (n : ℕ) → to_end (cond (ends_earlier a b) a b) n ≡ (to_end a n && to_end b n)
+end-common : (a b : Bound ℕ) (n : ℕ) → to_end (cond (ends_earlier a b) a b) n ≡ (to_end a n && to_end b n)
 end-common Bound.Unbounded b n = refl
 end-common (Bound.Included e) b n =
     chosen (λ c. to_end c n) (to_end b e) (Bound.Included e) b
@@ -168,7 +164,7 @@ common-inside r q x y n =
     crossed false b c d = refl
 
 -- it begins where the later one begins
-first-common : (a b : Bound) → is_excluded a ≡ false → first_of (cond (starts_later a b) a b) ≡ later (first_of a) (first_of b)
+first-common : (a b : Bound ℕ) → is_excluded a ≡ false → first_of (cond (starts_later a b) a b) ≡ later (first_of a) (first_of b)
 first-common Bound.Unbounded b x = rw (le-leb 0 (first_of b) (omega arith))
 first-common (Bound.Included a) b x = rw (from_is b a) (picked (leb (first_of b) a) (leb a (first_of b)) refl refl)
   where
@@ -182,7 +178,7 @@ first-common (Bound.Excluded a) b x = cc
 -- ---- emptiness
 
 -- whether a range counts as empty by this end is whether its first number is past the end
-abbrev Told : ℕ → Bound → Type 0
+abbrev Told : ℕ → Bound ℕ → Type 0
 Told first end = empty_from first end ≡ not (to_end end first)
 
 told-included : (first e : ℕ) → Told first (Bound.Included e)
@@ -191,7 +187,7 @@ told-included first e = less-is e first
 told-excluded : (first e : ℕ) → Told first (Bound.Excluded e)
 told-excluded first e = rw (less-is first e, not-not)
 
-told-clipped : (first : ℕ) (end : Bound) (most : ℕ) → Told first (clipped_end end most)
+told-clipped : (first : ℕ) (end : Bound ℕ) (most : ℕ) → Told first (clipped_end end most)
 told-clipped first Bound.Unbounded most = told-included first most
 told-clipped first (Bound.Included e) most = either (Told first) (ltb most e) (told-included first most) (told-included first e)
 told-clipped first (Bound.Excluded e) most = either (Told first) (ltb (most + 1) e) (told-included first most) (told-excluded first e)
@@ -205,7 +201,7 @@ pub empty-is : (r : CondBounds) → is_excluded r.start ≡ false → first_of r
     → is_empty r ≡ gives (holds_none r)
 empty-is r x l h = empty-told r x (told r.end h)
   where
-    told : (end : Bound) → (first_of r.start ≡ 2 ^ 64 - 1 → end ≡ Bound.Unbounded → ⊥) → Told (first_of r.start) end
+    told : (end : Bound ℕ) → (first_of r.start ≡ 2 ^ 64 - 1 → end ≡ Bound.Unbounded → ⊥) → Told (first_of r.start) end
     told Bound.Unbounded h = let n : first_of r.start ≡ 2 ^ 64 - 1 → ⊥ = λ e. h e refl in lt-leb (2 ^ 64 - 1) (first_of r.start) (omega arith)
     told (Bound.Included e) h = told-included (first_of r.start) e
     told (Bound.Excluded e) h = told-excluded (first_of r.start) e
@@ -232,50 +228,30 @@ clipped-meets r q most x y =
 -- ---- the first and the last number
 
 -- the numbers of 64 bits in a range are those from the first to the last
-pub first-last-is : (r : CondBounds) (a z : ℕ) → first_last r ≡ some (a, z) → (n : ℕ) → n < 2 ^ 64 → inside r n ≡ (leb a n && leb n z)
+pub first-last-is : (r : CondBounds) (a z : ℕ) → first_last r ≡ Some (a, z) → (n : ℕ) → n < 2 ^ 64 → inside r n ≡ (leb a n && leb n z)
 first-last-is r a z e n h =
     let first = first_of r.start in
     let two = held (ltb first (2 ^ 64) && to_end r.end first) (first, last_of r.end) e in
     rw (from_is r.start n, to_last r.end (both_hold (ltb first (2 ^ 64)) (to_end r.end first) two.0).1)
     (ap (λ (p : ℕ × ℕ). leb p.0 n && leb n p.1) two.1)
   where
-    held : (test : Bool) (p : ℕ × ℕ) → cond test (some p) none ≡ some (a, z) → (test ≡ true) × (p ≡ (a, z))
+    held : (test : Bool) (p : ℕ × ℕ) → cond test (Some p) None ≡ Some (a, z) → (test ≡ true) × (p ≡ (a, z))
     held true p e = (refl, cc)
     held false p e = (cc, cc)
 
-    to_last : (end : Bound) → to_end end (first_of r.start) ≡ true → to_end end n ≡ leb n (last_of end)
+    to_last : (end : Bound ℕ) → to_end end (first_of r.start) ≡ true → to_end end n ≡ leb n (last_of end)
     to_last Bound.Unbounded t = sym (le-leb n (2 ^ 64 - 1) (omega arith))
     to_last (Bound.Included e) t = refl
     to_last (Bound.Excluded e) t = let e-is : e ≡ suc (e - 1) = omega (arith, leb-true) in ap (λ (m : ℕ). ltb n m) e-is ∙ leb-suc-suc n (e - 1)
 
 -- where there is none no number of 64 bits lies in the range
-pub first-last-none : (r : CondBounds) → first_last r ≡ none → (n : ℕ) → n < 2 ^ 64 → inside r n ≡ false
+pub first-last-none : (r : CondBounds) → first_last r ≡ None → (n : ℕ) → n < 2 ^ 64 → inside r n ≡ false
 first-last-none r e n h =
     let first = first_of r.start in
     not-from (inside r n)
     (λ t. let l = inside-first r n t in (and_is _ _).1 (lt-ltb first (2 ^ 64) (omega arith), inside-end r first n t l))
     (not-held (ltb first (2 ^ 64) && to_end r.end first) (first, last_of r.end) e)
   where
-    not-held : (test : Bool) (p : ℕ × ℕ) → cond test (some p) none ≡ none → test ≡ false
+    not-held : (test : Bool) (p : ℕ × ℕ) → cond test (Some p) None ≡ None → test ≡ false
     not-held true p e = cc
     not-held false p e = refl
-
--- ---- one answer: what the program's answers say tells them apart
-
-pub emptiness-one : (a b : Emptiness) → emptiness_says a ≡ emptiness_says b → a ≡ b
-emptiness-one (Emptiness.Is x) (Emptiness.Is y) e = cc
-emptiness-one (Emptiness.Is x) (Emptiness.Refused s) e = cc
-emptiness-one (Emptiness.Refused r) (Emptiness.Is y) e = cc
-emptiness-one (Emptiness.Refused r) (Emptiness.Refused s) e = ap Emptiness.Refused (refusal-one r s e)
-
-pub intersection-one : (a b : Intersection) → intersection_says a ≡ intersection_says b → a ≡ b
-intersection-one (Intersection.Is x) (Intersection.Is y) e = cc
-intersection-one (Intersection.Is x) (Intersection.Refused s) e = cc
-intersection-one (Intersection.Refused r) (Intersection.Is y) e = cc
-intersection-one (Intersection.Refused r) (Intersection.Refused s) e = ap Intersection.Refused (refusal-one r s e)
-
-pub numbers-one : (a b : FirstLast) → first_last_says a ≡ first_last_says b → a ≡ b
-numbers-one (FirstLast.Are x y) (FirstLast.Are u v) e = ap (λ (p : ℕ × ℕ). FirstLast.Are p.0 p.1) (some-injective (x, y) (u, v) e)
-numbers-one (FirstLast.Are x y) FirstLast.None e = cc
-numbers-one FirstLast.None (FirstLast.Are u v) e = cc
-numbers-one FirstLast.None FirstLast.None e = refl

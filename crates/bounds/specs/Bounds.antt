@@ -1,25 +1,21 @@
 -- Ranges of numbers: which numbers lie in one, its end cut at a largest number, emptiness, what two have in common, the first and the last number.
 -- Numbers are those of 64 bits. Assumes nothing.
-use Rattle.std.specs.Prelude.{Bool, true, false, cond, not, ◌&&◌, ◌||◌, ℕ, ◌+◌, ◌-◌, ◌^◌, leb, ltb}
-use Rattle.std.proofs.Math.Option.{Option, none, some}
+use Rattle.std.specs.Prelude.{Bool, true, false, cond, not, ◌&&◌, ◌||◌, ℕ, ◌+◌, ◌-◌, ◌^◌, leb, ltb, Option, None, Some}
+use Rattle.std.specs.declared.ops.Bound.{Bound}
 use Rattle.answer.specs.declared.Group.{Group}
-use Rattle.answer.specs.Paper.{Answer, gives, refusal_says, refuse, ◌and_then◌}
-use Rattle.bounds.specs.declared.Bound.{Bound}
+use Rattle.answer.specs.Paper.{Answer, gives, refuse, ◌and_then◌}
 use Rattle.bounds.specs.declared.CondBounds.{CondBounds}
-use Rattle.bounds.specs.declared.Emptiness.{Emptiness}
-use Rattle.bounds.specs.declared.Intersection.{Intersection}
-use Rattle.bounds.specs.declared.FirstLast.{FirstLast}
 
 -- ---- the numbers of a range
 
 -- not before its start
-abbrev pub from_start : Bound → ℕ → Bool
+abbrev pub from_start : Bound ℕ → ℕ → Bool
 from_start Bound.Unbounded n = true
 from_start (Bound.Included a) n = leb a n
 from_start (Bound.Excluded a) n = ltb a n
 
 -- not past its end
-abbrev pub to_end : Bound → ℕ → Bool
+abbrev pub to_end : Bound ℕ → ℕ → Bool
 to_end Bound.Unbounded n = true
 to_end (Bound.Included e) n = leb n e
 to_end (Bound.Excluded e) n = ltb n e
@@ -29,7 +25,7 @@ abbrev pub inside : CondBounds → ℕ → Bool
 inside r n = from_start r.start n && to_end r.end n
 
 -- the number that a start begins with
-abbrev pub first_of : Bound → ℕ
+abbrev pub first_of : Bound ℕ → ℕ
 first_of Bound.Unbounded = 0
 first_of (Bound.Included a) = a
 first_of (Bound.Excluded a) = a + 1
@@ -47,7 +43,7 @@ meets r q = let n = later (first_of r.start) (first_of q.start) in inside r n &&
 
 -- ---- the end cut at a largest number: an excluded end may stand one past it
 
-abbrev pub clipped_end : Bound → ℕ → Bound
+abbrev pub clipped_end : Bound ℕ → ℕ → Bound ℕ
 clipped_end Bound.Unbounded most = Bound.Included most
 clipped_end (Bound.Included e) most = cond (ltb most e) (Bound.Included most) (Bound.Included e)
 clipped_end (Bound.Excluded e) most = cond (ltb (most + 1) e) (Bound.Included most) (Bound.Excluded e)
@@ -57,13 +53,13 @@ clipped r most = record { start = r.start; end = clipped_end r.end most }
 
 -- ---- alone. An excluded start is refused, bound 1
 
-abbrev pub is_excluded : Bound → Bool
+abbrev pub is_excluded : Bound ℕ → Bool
 is_excluded Bound.Unbounded = false
 is_excluded (Bound.Included a) = false
 is_excluded (Bound.Excluded a) = true
 
 -- emptiness as the Rust has it: a start of 2^64 - 1 with no end counts as empty, though that number lies in it
-abbrev pub empty_from : ℕ → Bound → Bool
+abbrev pub empty_from : ℕ → Bound ℕ → Bool
 empty_from first Bound.Unbounded = leb (2 ^ 64 - 1) first
 empty_from first (Bound.Included e) = ltb e first
 empty_from first (Bound.Excluded e) = leb e first
@@ -72,19 +68,19 @@ unfoldable pub is_empty : CondBounds → Answer Bool
 is_empty r = refuse (is_excluded r.start) Group.Bound 1 0 and_then gives (empty_from (first_of r.start) r.end)
 
 -- of two starts the later one; an excluded one was refused
-abbrev pub starts_later : Bound → Bound → Bool
+abbrev pub starts_later : Bound ℕ → Bound ℕ → Bool
 starts_later Bound.Unbounded q = false
 starts_later (Bound.Included a) q = from_start q a
 starts_later (Bound.Excluded a) q = true
 
 -- n is at most the number of an end, of either kind
-abbrev pub number_up_to : ℕ → Bound → Bool
+abbrev pub number_up_to : ℕ → Bound ℕ → Bool
 number_up_to n Bound.Unbounded = true
 number_up_to n (Bound.Included e) = leb n e
 number_up_to n (Bound.Excluded e) = leb n e
 
 -- of two ends the earlier one: of an included i and an excluded e the former where i < e
-abbrev pub ends_earlier : Bound → Bound → Bool
+abbrev pub ends_earlier : Bound ℕ → Bound ℕ → Bool
 ends_earlier Bound.Unbounded q = false
 ends_earlier (Bound.Included e) q = to_end q e
 ends_earlier (Bound.Excluded e) q = number_up_to e q
@@ -101,27 +97,13 @@ intersection r q = refuse (is_excluded r.start || is_excluded q.start) Group.Bou
 
 -- ---- the first and the last number of 64 bits in a range, where it holds one
 
-abbrev pub last_of : Bound → ℕ
+abbrev pub last_of : Bound ℕ → ℕ
 last_of Bound.Unbounded = 2 ^ 64 - 1
 last_of (Bound.Included e) = e
 last_of (Bound.Excluded e) = e - 1
 
-abbrev pub first_last_from : ℕ → Bound → Option (ℕ × ℕ)
-first_last_from first end = cond (ltb first (2 ^ 64) && to_end end first) (some (first, last_of end)) none
+abbrev pub first_last_from : ℕ → Bound ℕ → Option (ℕ × ℕ)
+first_last_from first end = cond (ltb first (2 ^ 64) && to_end end first) (Some (first, last_of end)) None
 
 abbrev pub first_last : CondBounds → Option (ℕ × ℕ)
 first_last r = first_last_from (first_of r.start) r.end
-
--- ---- what the program's answers say
-
-abbrev pub emptiness_says : Emptiness → Answer Bool
-emptiness_says (Emptiness.Is empty) = gives empty
-emptiness_says (Emptiness.Refused r) = refusal_says r
-
-abbrev pub intersection_says : Intersection → Answer CondBounds
-intersection_says (Intersection.Is r) = gives r
-intersection_says (Intersection.Refused r) = refusal_says r
-
-abbrev pub first_last_says : FirstLast → Option (ℕ × ℕ)
-first_last_says (FirstLast.Are first last) = some (first, last)
-first_last_says FirstLast.None = none

@@ -1,72 +1,37 @@
 // Ranges of numbers, as the Rust's `CondBounds`: an end cut at a largest number, emptiness, intersection; and the first and the last number of a range.
 #![tactic(auto)]
 
-ghost use Rattle.std.specs.Prelude.{◌≡◌, cond, ◌+◌};
-ghost use Rattle.bounds.specs.Bounds.{from_start, to_end, last_of, clipped_end, clipped, is_excluded, empty_from, is_empty, starts_later, number_up_to, ends_earlier, intersection, first_last_from, first_last, emptiness_says, intersection_says, first_last_says};
+ghost use Rattle.std.specs.Prelude.{◌≡◌};
+ghost use Rattle.answer.specs.Paper.{says};
+ghost use Rattle.bounds.specs.Bounds.{from_start, to_end, last_of, clipped_end, clipped, is_excluded, empty_from, is_empty, starts_later, number_up_to, ends_earlier, intersection, first_last};
 
-use answer::{BoundFault, Refusal};
+use answer::{BoundFault, Refusal, refuse};
+use std::ops::Bound;
 
-// Where a range starts or ends: nowhere, with a number, or just past a start and just before an end.
-#[derive(Clone, Copy)]
-pub enum Bound {
-    Unbounded,
-    Included(u64),
-    Excluded(u64),
-}
-
-#[derive(Clone, Copy)]
+// Where a range starts and where it ends: nowhere, with a number, or just past a start and just before an end.
+// No `Debug`, which std's `Bound` lacks.
+#[derive(Clone, Copy, PartialEq, Eq)]
 pub struct CondBounds {
-    pub start: Bound,
-    pub end: Bound,
+    pub start: Bound<u64>,
+    pub end: Bound<u64>,
 }
 
-#[derive(Clone, Copy)]
-pub enum Emptiness {
-    Is(bool),
-    Refused(Refusal),
-}
-
-#[derive(Clone, Copy)]
-pub enum Intersection {
-    Is(CondBounds),
-    Refused(Refusal),
-}
-
-// The first and the last number of a range, if it holds any.
-#[derive(Clone, Copy)]
-pub enum FirstLast {
-    Are(u64, u64),
-    None,
-}
-
-// ---- the end cut at a largest number
-
-// An excluded end may stand one past it.
-fn clip_excluded(e: u64, most: u64) -> Bound
-    ensures { result ≡ clipped_end (Bound.Excluded e) most }
-{
-    if e <= most {
-        return Bound::Excluded(e);
-    }
-    if e - most == 1 {
-        return Bound::Excluded(e);
-    }
-    Bound::Included(most)
-}
-
-fn clip(end: Bound, most: u64) -> Bound
+// The end cut at a largest number.
+fn clip(end: Bound<u64>, most: u64) -> Bound<u64>
     ensures { result ≡ clipped_end end most }
 {
     match end {
         Bound::Unbounded => Bound::Included(most),
-        Bound::Included(e) => Bound::Included(if most < e { most } else { e }),
-        Bound::Excluded(e) => clip_excluded(e, most),
+        Bound::Included(e) => Bound::Included(e.min(most)),
+        // An excluded end may stand one past it.
+        Bound::Excluded(e) if e.saturating_sub(1) <= most => Bound::Excluded(e),
+        Bound::Excluded(_) => Bound::Included(most),
     }
 }
 
 // ---- which numbers lie in a range
 
-fn from_start(start: Bound, n: u64) -> bool
+fn from_start(start: Bound<u64>, n: u64) -> bool
     ensures { result ≡ from_start start n }
 {
     match start {
@@ -76,7 +41,7 @@ fn from_start(start: Bound, n: u64) -> bool
     }
 }
 
-fn to_end(end: Bound, n: u64) -> bool
+fn to_end(end: Bound<u64>, n: u64) -> bool
     ensures { result ≡ to_end end n }
 {
     match end {
@@ -86,49 +51,25 @@ fn to_end(end: Bound, n: u64) -> bool
     }
 }
 
-fn last(end: Bound) -> u64
+fn last(end: Bound<u64>) -> u64
     ensures { result ≡ last_of end }
 {
     match end {
         Bound::Unbounded => u64::MAX,
         Bound::Included(e) => e,
-        Bound::Excluded(e) => if e == 0 { 0 } else { e - 1 },
+        Bound::Excluded(e) => e.saturating_sub(1),
     }
-}
-
-// From a number on.
-fn first_last_from(first: u64, end: Bound) -> FirstLast
-    ensures { first_last_says result ≡ first_last_from first end }
-{
-    if to_end(end, first) {
-        return FirstLast::Are(first, last(end));
-    }
-    FirstLast::None
-}
-
-// From past a number on.
-fn first_last_past(a: u64, end: Bound) -> FirstLast
-    ensures { first_last_says result ≡ first_last_from (a + 1) end }
-{
-    if a < u64::MAX {
-        return first_last_from(a + 1, end);
-    }
-    FirstLast::None
 }
 
 // ---- emptiness and intersection
 
-fn is_excluded(start: Bound) -> bool
+fn is_excluded(start: Bound<u64>) -> bool
     ensures { result ≡ is_excluded start }
 {
-    match start {
-        Bound::Unbounded => false,
-        Bound::Included(_) => false,
-        Bound::Excluded(_) => true,
-    }
+    matches!(start, Bound::Excluded(_))
 }
 
-fn empty_from(first: u64, end: Bound) -> bool
+fn empty_from(first: u64, end: Bound<u64>) -> bool
     ensures { result ≡ empty_from first end }
 {
     match end {
@@ -139,7 +80,7 @@ fn empty_from(first: u64, end: Bound) -> bool
 }
 
 // Of two starts the later one.
-fn starts_later(a: Bound, b: Bound) -> bool
+fn starts_later(a: Bound<u64>, b: Bound<u64>) -> bool
     ensures { result ≡ starts_later a b }
 {
     match a {
@@ -150,18 +91,17 @@ fn starts_later(a: Bound, b: Bound) -> bool
 }
 
 // Whether a number is at most that of an end, of either kind.
-fn number_up_to(n: u64, end: Bound) -> bool
+fn number_up_to(n: u64, end: Bound<u64>) -> bool
     ensures { result ≡ number_up_to n end }
 {
     match end {
         Bound::Unbounded => true,
-        Bound::Included(e) => n <= e,
-        Bound::Excluded(e) => n <= e,
+        Bound::Included(e) | Bound::Excluded(e) => n <= e,
     }
 }
 
 // Of two ends the earlier one.
-fn ends_earlier(a: Bound, b: Bound) -> bool
+fn ends_earlier(a: Bound<u64>, b: Bound<u64>) -> bool
     ensures { result ≡ ends_earlier a b }
 {
     match a {
@@ -171,65 +111,60 @@ fn ends_earlier(a: Bound, b: Bound) -> bool
     }
 }
 
-fn choose(test: bool, a: Bound, b: Bound) -> Bound
-    ensures { result ≡ cond test a b }
-{
-    if test { a } else { b }
-}
-
 impl CondBounds {
     // The range with its end cut at a largest number.
     pub fn update_end(self, most: u64) -> CondBounds
         ensures { result ≡ clipped self most }
     {
-        let start = self.start;
-        let end = self.end;
         CondBounds {
-            start,
-            end: clip(end, most),
+            start: self.start,
+            end: clip(self.end, most),
         }
     }
 
     // Whether the range counts as empty; bound 1 for an excluded start.
-    pub fn is_empty(self) -> Emptiness
-        ensures { emptiness_says result ≡ is_empty self }
+    #[tactic(auto, unfolding(crate::specs::Bounds::is_empty))]
+    pub fn is_empty(self) -> Result<bool, Refusal>
+        ensures { says result ≡ is_empty self }
     {
-        let start = self.start;
-        let end = self.end;
-        match start {
-            Bound::Unbounded => Emptiness::Is(empty_from(0, end)),
-            Bound::Included(a) => Emptiness::Is(empty_from(a, end)),
-            Bound::Excluded(_) => { Emptiness::Refused(Refusal::Bound(BoundFault::StartExcluded)) }
-        }
+        let first = match self.start {
+            Bound::Unbounded => 0,
+            Bound::Included(a) => a,
+            Bound::Excluded(_) => return Err(Refusal::Bound(BoundFault::StartExcluded)),
+        };
+        Ok(empty_from(first, self.end))
     }
 
     // What two ranges have in common; bound 1 where either start is excluded.
-    pub fn intersect(self, other: CondBounds) -> Intersection
-        ensures { intersection_says result ≡ intersection self other }
+    #[tactic(auto, unfolding(crate::specs::Bounds::intersection))]
+    pub fn intersect(self, other: CondBounds) -> Result<CondBounds, Refusal>
+        ensures { says result ≡ intersection self other }
     {
-        let start = self.start;
-        let end = self.end;
-        let other_start = other.start;
-        let other_end = other.end;
-        if is_excluded(start) | is_excluded(other_start) {
-            return Intersection::Refused(Refusal::Bound(BoundFault::StartExcluded));
-        }
-        Intersection::Is(CondBounds {
-            start: choose(starts_later(start, other_start), start, other_start),
-            end: choose(ends_earlier(end, other_end), end, other_end),
+        let excluded = is_excluded(self.start) || is_excluded(other.start);
+        refuse(excluded, Refusal::Bound(BoundFault::StartExcluded))?;
+        Ok(CondBounds {
+            start: if starts_later(self.start, other.start) {
+                self.start
+            } else {
+                other.start
+            },
+            end: if ends_earlier(self.end, other.end) {
+                self.end
+            } else {
+                other.end
+            },
         })
     }
 
     // The first and the last number that lie in the range.
-    pub fn first_last(self) -> FirstLast
-        ensures { first_last_says result ≡ first_last self }
+    pub fn first_last(self) -> Option<(u64, u64)>
+        ensures { result ≡ first_last self }
     {
-        let start = self.start;
-        let end = self.end;
-        match start {
-            Bound::Unbounded => first_last_from(0, end),
-            Bound::Included(a) => first_last_from(a, end),
-            Bound::Excluded(a) => first_last_past(a, end),
-        }
+        let first = match self.start {
+            Bound::Unbounded => 0,
+            Bound::Included(a) => a,
+            Bound::Excluded(a) => a.checked_add(1)?,
+        };
+        to_end(self.end, first).then_some((first, last(self.end)))
     }
 }

@@ -4,7 +4,7 @@ use Prim.Native.String.{String}
 use Rattle.octets.specs.Ascii.{ascii}
 use Rattle.blocks.specs.declared.nodes.Node.{Node}
 use Rattle.expr.specs.declared.UsableAlgExpr.{UsableAlgExpr}
-use Rattle.bounds.specs.declared.Bound.{Bound}
+use Rattle.std.specs.declared.ops.Bound.{Bound}
 use Rattle.bounds.specs.declared.CondBounds.{CondBounds}
 use Rattle.stated.specs.Items.{a_number, some_bytes, DefaultItem, no_default, a_default, as_form, as_tree, Item, field_item, length_item, cond_item}
 use Rattle.stated.specs.Stated.{block_of}

@@ -1,15 +1,11 @@
 -- The table of cases: both sides of the lines that the rules draw, each a question and what is answered to it. Assumes nothing.
-use Rattle.std.specs.Prelude.{false, List, [], ◌∷◌, ℕ, replicate}
-use Rattle.std.proofs.Math.Option.{Option, none, some}
+use Rattle.std.specs.Prelude.{Bool, false, List, [], ◌∷◌, ℕ, replicate, Option, None, Some}
 use Rattle.answer.specs.declared.Group.{Group}
 use Rattle.answer.specs.Paper.{Check, accepted, refused}
 use Rattle.blocks.specs.declared.nodes.Node.{Node}
 use Rattle.types.specs.declared.BuiltinTypes.{BuiltinTypes}
 use Rattle.types.specs.declared.Arg.{Arg}
 use Rattle.field.specs.declared.DefaultVal.{DefaultVal}
-use Rattle.field.specs.declared.DefinedRepr.{DefinedRepr}
-use Rattle.field.specs.declared.DefinedArg.{DefinedArg}
-use Rattle.field.specs.declared.DefinedDefault.{DefinedDefault}
 use Rattle.field.specs.Fields.{field_check}
 use Rattle.layout.specs.Layout.{template}
 use Rattle.header.specs.Starts.{header_layout}
@@ -28,7 +24,7 @@ pub data Question : Type 0 where
   -- the verdict on a sheet
   verdict : List Item → Question
   -- step 2 of the items of one field alone
-  field_alone : (bits : ℕ) → DefinedRepr → DefinedArg → DefinedDefault → Question
+  field_alone : (bits : ℕ) → Option BuiltinTypes → Option Arg → Option (DefaultVal × Bool) → Question
   -- the header of a sheet: how many bytes it has, and its template
   header : List Item → Question
   -- the first and the last number of range j of condition k of a sheet
@@ -60,23 +56,23 @@ q is o = record { question = q; expected = o }
 
 -- ---- items of a field alone
 
-abbrev no_repr : DefinedRepr
-no_repr = DefinedRepr.Absent
+abbrev no_repr : Option BuiltinTypes
+no_repr = None
 
-abbrev as_slice : DefinedRepr
-as_slice = DefinedRepr.Given BuiltinTypes.ByteSlice
+abbrev as_slice : Option BuiltinTypes
+as_slice = Some BuiltinTypes.ByteSlice
 
-abbrev no_arg : DefinedArg
-no_arg = DefinedArg.Absent
+abbrev no_arg : Option Arg
+no_arg = None
 
-abbrev as_bool : DefinedArg
-as_bool = DefinedArg.Given (Arg.BuiltinTypes BuiltinTypes.Bool)
+abbrev as_bool : Option Arg
+as_bool = Some (Arg.BuiltinTypes BuiltinTypes.Bool)
 
-abbrev absent_default : DefinedDefault
-absent_default = DefinedDefault.Absent
+abbrev absent_default : Option (DefaultVal × Bool)
+absent_default = None
 
-abbrev default : ℕ → DefinedDefault
-default n = DefinedDefault.Given (DefaultVal.Num n) false
+abbrev default : ℕ → Option (DefaultVal × Bool)
+default n = Some (DefaultVal.Num n, false)
 
 -- ---- the header of RFC 791 without options: version 4, an IHL, the rest 0; and the header's length is IHL * 4
 abbrev rfc791 : ℕ → List Item
@@ -130,13 +126,13 @@ table =
     ∷ verdict (measure "x" 8 ∷ slot_holds_tree payload_len "x" (Node.Ident ∷ Node.Num 2 ∷ Node.Sub 0 1 ∷ []) ∷ []) is answer (refused Group.Length 12 1)
     -- cut to the values of 8 bits, what lies below 256 is 0 to 255, and 300 to 400 is empty, cond 4
     ∷ verdict (plain "x" 8 ∷ condition "x" (below 256 ∷ []) ∷ []) is answer accepted
-    ∷ range (plain "x" 8 ∷ condition "x" (below 256 ∷ []) ∷ []) 0 0 is numbers (some (0, 255))
+    ∷ range (plain "x" 8 ∷ condition "x" (below 256 ∷ []) ∷ []) 0 0 is numbers (Some (0, 255))
     ∷ verdict (plain "x" 8 ∷ condition "x" (300 to 400 ∷ []) ∷ []) is answer (refused Group.Cond 4 1)
     -- 4 to 9 may stand beside 0 to below 4; with 0 to below 5 it has a number in common, cond 6
     ∷ verdict (plain "x" 8 ∷ condition "x" (0 to_below 4 ∷ 4 to 9 ∷ []) ∷ []) is answer accepted
     ∷ verdict (plain "x" 8 ∷ condition "x" (0 to_below 5 ∷ 4 to 9 ∷ []) ∷ []) is answer (refused Group.Cond 6 1)
     -- of two ranges the second, which ends before 16, has the numbers 8 to 15
-    ∷ range (plain "x" 8 ∷ condition "x" (0 to 3 ∷ 8 to_below 16 ∷ []) ∷ []) 0 1 is numbers (some (8, 15))
+    ∷ range (plain "x" 8 ∷ condition "x" (0 to 3 ∷ 8 to_below 16 ∷ []) ∷ []) 0 1 is numbers (Some (8, 15))
     -- bytes stand as they are between fields that share a byte: 101 00001, de ad, 1100 0011
     ∷ header around_bytes is header_is 4 (0xa1 ∷ 0xde ∷ 0xad ∷ 0xc3 ∷ [])
     ∷ verdict around_bytes is answer accepted
@@ -145,7 +141,7 @@ table =
     ∷ verdict (rfc791 5) is answer accepted
     ∷ verdict (rfc791 4) is answer (refused Group.Length 10 12)
     -- (x + 2) * 4 gives 5 back from 28, and nothing from 30, which is no multiple of 4, nor from 4, which is less than 2 * 4
-    ∷ back_from (UsableAlgExpr.AddMult 2 4) 28 is value (some 5)
-    ∷ back_from (UsableAlgExpr.AddMult 2 4) 30 is value none
-    ∷ back_from (UsableAlgExpr.AddMult 2 4) 4 is value none
+    ∷ back_from (UsableAlgExpr.AddMult 2 4) 28 is value (Some 5)
+    ∷ back_from (UsableAlgExpr.AddMult 2 4) 30 is value None
+    ∷ back_from (UsableAlgExpr.AddMult 2 4) 4 is value None
     ∷ []

@@ -5,7 +5,7 @@ use mathlib.Core.Bool.{Bool, true, false, cond, true≢false}
 use mathlib.Core.List.{List}
 use mathlib.Core.Logic.Iff
 use mathlib.Core.Logic.{◌↔◌}
-use mathlib.Core.Option.{Option, none, some}
+use Rattle.std.specs.Prelude.{Option, None, Some}
 use Prim.Native.Nat.{ℕ, ◌<◌}
 use native.Mathlib.Omega.{arith}
 use lib.Dec.{leb}
@@ -81,9 +81,9 @@ module _ (s : List ℕ) (i : ℕ) where
 
   -- what was found passes exactly where it is a field, and that passes
   named-is : (found : Option ℕ) → (named_fault s i found ≡ accepted)
-      ↔ ((k : ℕ) × (found ≡ some k) × (cond_fault s i (field_at s k) ≡ accepted))
-  named-is (some k) = (λ e. (k, refl, e), λ p. let same : k ≡ p.0 = cc in rw same p.2)
-  named-is none = (λ e. absurd (never-given refl e), λ p. absurd (let z : ◌≡◌ {A = ℕ} 0 1 = cc in omega arith))
+      ↔ ((k : ℕ) × (found ≡ Some k) × (cond_fault s i (field_at s k) ≡ accepted))
+  named-is (Some k) = (λ e. (k, refl, e), λ p. let same : k ≡ p.0 = cc in rw same p.2)
+  named-is None = (λ e. absurd (never-given refl e), λ p. absurd (let z : ◌≡◌ {A = ℕ} 0 1 = cc in omega arith))
 
   -- a block passes exactly where it is no entry, or a good one whose name no entry before has
   entry-is : (entry_fault s i ≡ accepted) ↔ (is_entry (block_at s i) ≡ true → Entry s i × (listed_before s i ≡ false))

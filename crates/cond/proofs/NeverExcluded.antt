@@ -6,7 +6,7 @@ use Prim.Native.Nat.{ℕ}
 use lib.Dec.{eqb}
 use Rattle.answer.specs.Paper.{Answer, gives}
 use Rattle.blocks.specs.Layout.{stated_range}
-use Rattle.bounds.specs.declared.Bound.{Bound}
+use Rattle.std.specs.declared.ops.Bound.{Bound}
 use Rattle.bounds.specs.declared.CondBounds.{CondBounds}
 use Rattle.bounds.specs.Bounds.{meets, is_excluded, is_empty, common, intersection}
 use Rattle.bounds.proofs.InNumbers.{clipped-meets}

@@ -8,7 +8,7 @@ use lib.ListN.{length, get_or, take}
 use Rattle.octets.specs.Octets.{AreBytes}
 use Rattle.blocks.specs.declared.StatedRange.{StatedRange}
 use Rattle.blocks.specs.Layout.{block_size, check_at, stated_range}
-use Rattle.bounds.specs.declared.Bound.{Bound}
+use Rattle.std.specs.declared.ops.Bound.{Bound}
 use Rattle.bounds.specs.declared.CondBounds.{CondBounds}
 use Rattle.stated.specs.Items.{WellFormedStart, WellFormedRange, all_numbers, cond_item, WellFormed}
 use Rattle.stated.specs.Stated.{bound_kind, bound_number, range_codes, stated}
@@ -17,7 +17,7 @@ use Rattle.stated.proofs.Laws.{read_back}
 use Rattle.cond.specs.Ranges.{start_bound, end_bound, range_in}
 use Rattle.cond.specs.RangesRead.{RangesRead}
 
-start-read : (s : Bound) → WellFormedStart s → start_bound (bound_kind s) (bound_number s) ≡ s
+start-read : (s : Bound ℕ) → WellFormedStart s → start_bound (bound_kind s) (bound_number s) ≡ s
 start-read Bound.Unbounded good = refl
 start-read (Bound.Included n) good = refl
 start-read (Bound.Excluded n) good = absurd good

@@ -1,6 +1,6 @@
 -- What exactly step 5 accepts, said of the numbers that lie in the ranges and not of the tests. Assumes nothing.
 use Rattle.std.specs.Prelude.{◌≡◌, true, List, ℕ, ◌≤◌, ◌<◌}
-use Rattle.std.proofs.Math.Option.{some}
+use Rattle.std.specs.Prelude.{Some}
 use Rattle.sheet.specs.Blocks.{block_count, block_at, cond_count}
 use Rattle.types.specs.declared.BuiltinTypes.{BuiltinTypes}
 use Rattle.field.specs.declared.Field.{Field}
@@ -19,7 +19,7 @@ Lies b f k n = (inside (range_in b k) n ≡ true) × (n ≤ largest_of f)
 pub record Entry (s : List ℕ) (i : ℕ) : Type 0 where
   -- it names a field, which is no byte slice
   pub field : ℕ
-  pub named : field_named s (name_at s i) ≡ some field
+  pub named : field_named s (name_at s i) ≡ Some field
   pub number : (field_at s field).repr ≡ BuiltinTypes.ByteSlice → ⊥
   -- in each of its ranges lies a value of the field, and none lies in two
   pub held : (k : ℕ) → k < range_count (block_at s i) → (n : ℕ) × Lies (block_at s i) (field_at s field) k n

@@ -1,6 +1,6 @@
 -- Step 5: the conditions of a sheet, entry by entry; an entry is a C block. Assumes nothing.
 use Rattle.std.specs.Prelude.{Bool, cond, ◌&&◌, List, ℕ, ltb}
-use Rattle.std.proofs.Math.Option.{Option, none, some}
+use Rattle.std.specs.Prelude.{Option, None, Some}
 use Rattle.answer.specs.declared.Group.{Group}
 use Rattle.answer.specs.Paper.{Check, accepted, refused, refuse, ◌and_then◌, first}
 use Rattle.answer.specs.Walk.{first_where, is_some}
@@ -43,8 +43,8 @@ cond_fault s i f =
 
 -- cond 1: no such field
 abbrev pub named_fault : List ℕ → ℕ → Option ℕ → Check
-named_fault s i (some k) = cond_fault s i (field_at s k)
-named_fault s i none = refused Group.Cond 1 i
+named_fault s i (Some k) = cond_fault s i (field_at s k)
+named_fault s i None = refused Group.Cond 1 i
 
 abbrev pub entry_fault : List ℕ → ℕ → Check
 entry_fault s i = cond (is_entry (block_at s i)) (named_fault s i (field_named s (name_at s i))) accepted
@@ -57,10 +57,10 @@ cond_check s = first (entry_fault s) (block_count s) and_then refuse (ltb 8 (con
 -- ---- the first and the last number of range k of the entry in block i, where there is such an entry, field and range
 
 abbrev pub numbers_in : List ℕ → Option ℕ → List ℕ → ℕ → Option (ℕ × ℕ)
-numbers_in s (some j) b k = first_last (clipped_in b (largest_of (field_at s j)) k)
-numbers_in s none b k = none
+numbers_in s (Some j) b k = first_last (clipped_in b (largest_of (field_at s j)) k)
+numbers_in s None b k = None
 
 unfoldable pub range_numbers : List ℕ → ℕ → ℕ → Option (ℕ × ℕ)
 range_numbers s i k =
     let b = block_at s i in
-    cond (is_entry b && ltb k (range_count b)) (numbers_in s (field_named s (name_at s i)) b k) none
+    cond (is_entry b && ltb k (range_count b)) (numbers_in s (field_named s (name_at s i)) b k) None

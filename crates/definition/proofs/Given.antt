@@ -3,7 +3,7 @@
 use mathlib.Core.Path.{◌≡◌, refl, sym, ap, ◌∙◌}
 use mathlib.Core.Bool.{true, true≢false}
 use mathlib.Core.List.{List}
-use mathlib.Core.Option.{Option, none, some}
+use Rattle.std.specs.Prelude.{Option, None, Some}
 use Prim.Native.Nat.{ℕ, ◌+◌, ◌^◌, ◌≤◌, ◌<◌}
 use native.Mathlib.Decide.{dec_lt, ℕ_discrete}
 use native.Mathlib.Omega.{arith}
@@ -51,20 +51,20 @@ largest-fits f = by_width (dec_lt 64 (width_of f)) (ℕ_discrete (width_of f) 0)
 module _ (s : List ℕ) (ok : Accepted s) where
   -- ---- slots
 
-  pub slot-given : (slot : ℕ) (e : UsableAlgExpr) → slot < 3 → length_field s slot ≡ LengthField.Expr e → (most : ℕ) × (largest_length s slot ≡ some most) × (most ≤ max_bytes)
+  pub slot-given : (slot : ℕ) (e : UsableAlgExpr) → slot < 3 → length_field s slot ≡ LengthField.Expr e → (most : ℕ) × (largest_length s slot ≡ Some most) × (most ≤ max_bytes)
   slot-given slot e h = by-block (block_of_slot s slot) refl
     where
-      of-expr : (x : Option UsableAlgExpr) → held x ≡ LengthField.Expr e → x ≡ some e
-      of-expr (some y) q = cc
-      of-expr none q = cc
+      of-expr : (x : Option UsableAlgExpr) → held x ≡ LengthField.Expr e → x ≡ Some e
+      of-expr (Some y) q = cc
+      of-expr None q = cc
 
-      by-block : (b : Option ℕ) → block_of_slot s slot ≡ b → held_by s b ≡ LengthField.Expr e → (most : ℕ) × (worked largest (used_by s (or_zero b) (held_by s b)) ≡ some most) × (most ≤ max_bytes)
-      by-block (some at) is q =
+      by-block : (b : Option ℕ) → block_of_slot s slot ≡ b → held_by s b ≡ LengthField.Expr e → (most : ℕ) × (worked largest (used_by s (or_zero b) (held_by s b)) ≡ Some most) × (most ≤ max_bytes)
+      by-block (Some at) is q =
           let expressed = (expresses-is (block_at s at) e).0 (of-expr (expr_in (block_at s at)) q) in
           let found = ((lengths-are s (header_bytes s)).0 (five-steps s ok).length).used slot at h is e expressed in
           let serves = found.2 in
           (serves.most, rw (q, found.1) ((largest-is e found.0 serves.most).1 (serves.some_bits, serves.narrow, serves.most-is)), serves.most-allowed)
-      by-block none is q = absurd (let z : ◌≡◌ {A = ℕ} 0 1 = cc in omega arith)
+      by-block None is q = absurd (let z : ◌≡◌ {A = ℕ} 0 1 = cc in omega arith)
 
   -- ---- conditions
 
@@ -75,7 +75,7 @@ module _ (s : List ℕ) (ok : Accepted s) where
     abbrev pub block : ℕ
     block = field_count s + length_count s + k
 
-    at_block : entry_block s k ≡ some block
+    at_block : entry_block s k ≡ Some block
     unfolding entry_block
     at_block = rw (lt-ltb k (cond_count s) h)
 
@@ -88,10 +88,10 @@ module _ (s : List ℕ) (ok : Accepted s) where
     pub entry : Entry s block
     entry = ((conditions-are s).0 (five-steps s ok).conds).entries block there is-entry
 
-    pub entry-is : cond_entry s k ≡ some (record { block = block; field = entry.field; ranges = range_count (block_at s block) })
+    pub entry-is : cond_entry s k ≡ Some (record { block = block; field = entry.field; ranges = range_count (block_at s block) })
     entry-is = ap (in_block s) at_block ∙ ap (on_field s block) entry.named
 
-    pub entry-given : (c : CondEntry) × (cond_entry s k ≡ some c)
+    pub entry-given : (c : CondEntry) × (cond_entry s k ≡ Some c)
     entry-given = (record { block = block; field = entry.field; ranges = range_count (block_at s block) }, entry-is)
 
     pub few-here : range_count (block_at s block) ≤ 24
@@ -102,7 +102,7 @@ module _ (s : List ℕ) (ok : Accepted s) where
     unfolding range_numbers
     range-is j l = rw (at_block, is-entry, lt-ltb j (range_count (block_at s block)) l, entry.named)
 
-    pub range-given : (j : ℕ) → j < range_count (block_at s block) → (p : ℕ × ℕ) × (cond_range s k j ≡ some p)
+    pub range-given : (j : ℕ) → j < range_count (block_at s block) → (p : ℕ × ℕ) × (cond_range s k j ≡ Some p)
     range-given j l = rw (range-is j l) (by-numbers (first_last clip) refl)
       where
         clip : CondBounds
@@ -118,6 +118,6 @@ module _ (s : List ℕ) (ok : Accepted s) where
               omega (arith, one.1.1, largest-fits (field_at s entry.field)),
             )
 
-        by-numbers : (x : Option (ℕ × ℕ)) → first_last clip ≡ x → (p : ℕ × ℕ) × (first_last clip ≡ some p)
-        by-numbers (some p) e = (p, e)
-        by-numbers none e = absurd (true≢false (sym lying.1 ∙ first-last-none clip e lying.0 lying.2))
+        by-numbers : (x : Option (ℕ × ℕ)) → first_last clip ≡ x → (p : ℕ × ℕ) × (first_last clip ≡ Some p)
+        by-numbers (Some p) e = (p, e)
+        by-numbers None e = absurd (true≢false (sym lying.1 ∙ first-last-none clip e lying.0 lying.2))

@@ -3,7 +3,7 @@
 use mathlib.Core.Path.{◌≡◌, refl}
 use mathlib.Core.Bool.{Bool, true, false, cond}
 use mathlib.Core.List.{List}
-use mathlib.Core.Option.{Option, none, some}
+use Rattle.std.specs.Prelude.{Option, None, Some}
 use Prim.Native.Nat.{ℕ, zero, suc, ◌≤◌, ◌<◌, zero-le}
 use native.Mathlib.Nat.{le_refl, le_of_lt}
 use native.Mathlib.Omega.{arith}
@@ -19,7 +19,7 @@ use Rattle.sheet.specs.Sheet.{block_fault, sheet_check}
 use Rattle.sheet.proofs.Blocks.{count-le}
 use Rattle.types.specs.declared.BuiltinTypes.{BuiltinTypes}
 use Rattle.types.specs.declared.Arg.{Arg}
-use Rattle.field.specs.declared.DefinedDefault.{DefinedDefault}
+use Rattle.field.specs.declared.DefaultVal.{DefaultVal}
 use Rattle.field.specs.declared.Field.{Field}
 use Rattle.field.specs.Fields.{default_check, field_check}
 use Rattle.field_blocks.specs.Step.{fields_check}
@@ -61,14 +61,14 @@ module _ {m : ℕ} where
 
   -- ---- checks by cases
 
-  default-within : (at bits : ℕ) (repr : BuiltinTypes) (arg : Arg) (d : DefinedDefault) → at ≤ m → Within m (default_check at bits repr arg d)
-  default-within at bits repr arg DefinedDefault.Absent h = passes
-  default-within at bits repr arg (DefinedDefault.Given d fixed) h = search chains depth 12
+  default-within : (at bits : ℕ) (repr : BuiltinTypes) (arg : Arg) (d : Option (DefaultVal × Bool)) → at ≤ m → Within m (default_check at bits repr arg d)
+  default-within at bits repr arg None h = passes
+  default-within at bits repr arg (Some (d, fixed)) h = search chains depth 12
 
   expr-within : (header slot at : ℕ) (e : UsableAlgExpr) (f : Option Field) → at ≤ m → Within m (length.expr_fault header slot at e f)
   unfolding length.length_field_fault length.length_fault
-  expr-within header slot at e (some f) h = search chains depth 12
-  expr-within header slot at e none h = search chains
+  expr-within header slot at e (Some f) h = search chains depth 12
+  expr-within header slot at e None h = search chains
 
   held-within : (s : List ℕ) (header slot at : ℕ) (held : LengthField) → at ≤ m → Within m (length.held_fault s header slot at held)
   held-within s header slot at LengthField.Absent h = passes
@@ -77,8 +77,8 @@ module _ {m : ℕ} where
 
   named-within : (s : List ℕ) (i : ℕ) (found : Option ℕ) → i ≤ m → Within m (conds.named_fault s i found)
   unfolding conds.cond_fault
-  named-within s i (some k) h = search chains depth 12
-  named-within s i none h = search chains
+  named-within s i (Some k) h = search chains depth 12
+  named-within s i None h = search chains
 
 -- ---- the steps
 
@@ -91,8 +91,8 @@ module _ (s : List ℕ) where
   slot-place slot = of-block (block_of_slot s slot) refl
     where
       of-block : (b : Option ℕ) → block_of_slot s slot ≡ b → or_zero b ≤ block_count s
-      of-block (some i) e = le_of_lt (where_found (λ j. is_slot slot (block_at s j)) (block_count s) i e).0
-      of-block none e = omega arith
+      of-block (Some i) e = le_of_lt (where_found (λ j. is_slot slot (block_at s j)) (block_count s) i e).0
+      of-block None e = omega arith
 
   sheet-within : Within (block_count s) (sheet_check s)
   unfolding sheet_check block_fault

@@ -1,10 +1,10 @@
 -- The number of a form and its numbers are taken for the same form: `form-back`. Assumes nothing.
 use mathlib.Core.Path.{◌≡◌, refl}
-use mathlib.Core.Option.{some}
+use Rattle.std.specs.Prelude.{Some}
 use Rattle.expr.specs.declared.UsableAlgExpr.{UsableAlgExpr}
 use Rattle.expr.specs.Forms.{form_number, first_in, second_in, form_of}
 
-pub form-back : (e : UsableAlgExpr) → form_of (form_number e) (first_in e) (second_in e) ≡ some e
+pub form-back : (e : UsableAlgExpr) → form_of (form_number e) (first_in e) (second_in e) ≡ Some e
 unfolding form_of
 form-back UsableAlgExpr.IdentOnly = refl
 form-back (UsableAlgExpr.SimpleAdd a) = refl

@@ -1,7 +1,7 @@
 -- A length never falls as its value rises: where a larger value has a length, so has a smaller one, and it is not longer. Shown of each step, then of
 -- two. Assumes nothing.
 use mathlib.Core.Path.{◌≡◌, refl}
-use mathlib.Core.Option.{Option, some}
+use Rattle.std.specs.Prelude.{Option, Some}
 use Prim.Native.Nat.{ℕ, ◌+◌, ◌*◌, ◌≤◌}
 use native.Mathlib.Nat.{mul-le-mul_right}
 use native.Mathlib.Omega.{arith}
@@ -10,7 +10,7 @@ use Rattle.expr.specs.Forms.{◌then◌, plus, times, forward}
 use Rattle.expr.proofs.WayBack.{fits-is, then_is}
 
 abbrev pub Grows : (ℕ → Option ℕ) → Type 0
-Grows step = (x y most : ℕ) → x ≤ y → step y ≡ some most → (n : ℕ) × (step x ≡ some n) × (n ≤ most)
+Grows step = (x y most : ℕ) → x ≤ y → step y ≡ Some most → (n : ℕ) × (step x ≡ Some n) × (n ≤ most)
 
 plus-grows : (a : ℕ) → Grows (plus a)
 plus-grows a x y most h e = let p = (fits-is (y + a) most).0 e in (x + a, (fits-is (x + a) (x + a)).1 (refl, omega arith), omega arith)

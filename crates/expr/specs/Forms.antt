@@ -1,21 +1,19 @@
 -- The five forms of a length expression: a field's value forward to a length, and a length back to the value. Assumes nothing.
-use Rattle.std.specs.Prelude.{◌≡◌, Bool, true, cond, not, ◌↔◌, ℕ, ◌+◌, ◌-◌, ◌*◌, ◌/◌, ◌%◌, ◌^◌, ltb, eqb}
-use Rattle.std.proofs.Math.Option.{Option, none, some}
+use Rattle.std.specs.Prelude.{◌≡◌, Bool, true, cond, not, ◌↔◌, ℕ, ◌+◌, ◌-◌, ◌*◌, ◌/◌, ◌%◌, ◌^◌, ltb, eqb, Option, None, Some}
+use Rattle.number.specs.declared.Bytes.{Bytes}
 use Rattle.expr.specs.declared.UsableAlgExpr.{UsableAlgExpr}
-use Rattle.expr.specs.declared.MaybeNumber.{MaybeNumber}
-use Rattle.expr.specs.declared.Length.{Length}
 
 -- ---- forward
 
 -- a step's number, and none where it passes 2^64 - 1
 unfoldable pub in64_bits : ℕ → Option ℕ
-in64_bits n = cond (ltb n (2 ^ 64)) (some n) none
+in64_bits n = cond (ltb n (2 ^ 64)) (Some n) None
 
 -- one step after another: none where the first gives none
 infixl 20 ◌then◌
 abbrev pub ◌then◌ : Option ℕ → (ℕ → Option ℕ) → Option ℕ
-some n then step = step n
-none then step = none
+Some n then step = step n
+None then step = None
 
 abbrev pub plus : ℕ → ℕ → Option ℕ
 plus a n = in64_bits (n + a)
@@ -25,7 +23,7 @@ times m n = in64_bits (n * m)
 
 -- x; x + a; x * m; (x + a) * m; x * m + a
 abbrev pub forward : UsableAlgExpr → ℕ → Option ℕ
-forward UsableAlgExpr.IdentOnly x = some x
+forward UsableAlgExpr.IdentOnly x = Some x
 forward (UsableAlgExpr.SimpleAdd a) x = plus a x
 forward (UsableAlgExpr.SimpleMult m) x = times m x
 forward (UsableAlgExpr.AddMult a m) x = plus a x then times m
@@ -43,17 +41,17 @@ no_zero (UsableAlgExpr.MultAdd m a) = not (eqb m 0)
 
 -- r is what y gives back: x exactly when x forward is y and no multiplier is 0
 abbrev pub Back : UsableAlgExpr → ℕ → Option ℕ → Type 0
-Back e y r = (x : ℕ) → (r ≡ some x) ↔ ((forward e x ≡ some y) × (no_zero e ≡ true))
+Back e y r = (x : ℕ) → (r ≡ Some x) ↔ ((forward e x ≡ Some y) × (no_zero e ≡ true))
 
 -- the same worked out: the steps undone, the last one first
 unfoldable pub less : ℕ → ℕ → Option ℕ
-less a n = cond (ltb n a) none (some (n - a))
+less a n = cond (ltb n a) None (Some (n - a))
 
 unfoldable pub over : ℕ → ℕ → Option ℕ
-over m n = cond (eqb m 0) none (cond (eqb (n % m) 0) (some (n / m)) none)
+over m n = cond (eqb m 0) None (cond (eqb (n % m) 0) (Some (n / m)) None)
 
 abbrev pub back : UsableAlgExpr → ℕ → Option ℕ
-back UsableAlgExpr.IdentOnly y = some y
+back UsableAlgExpr.IdentOnly y = Some y
 back (UsableAlgExpr.SimpleAdd a) y = less a y
 back (UsableAlgExpr.SimpleMult m) y = over m y
 back (UsableAlgExpr.AddMult a m) y = over m y then less a
@@ -85,18 +83,14 @@ second_in (UsableAlgExpr.MultAdd m a) = a
 -- the form of a number, with two numbers in that order; any other number is none
 unfoldable pub form_of : ℕ → ℕ → ℕ → Option UsableAlgExpr
 form_of number first second =
-    cond (eqb number 1) (some UsableAlgExpr.IdentOnly)
-    (cond (eqb number 2) (some (UsableAlgExpr.SimpleAdd first))
-    (cond (eqb number 3) (some (UsableAlgExpr.SimpleMult first))
-    (cond (eqb number 4) (some (UsableAlgExpr.AddMult first second))
-    (cond (eqb number 5) (some (UsableAlgExpr.MultAdd first second)) none))))
+    cond (eqb number 1) (Some UsableAlgExpr.IdentOnly)
+    (cond (eqb number 2) (Some (UsableAlgExpr.SimpleAdd first))
+    (cond (eqb number 3) (Some (UsableAlgExpr.SimpleMult first))
+    (cond (eqb number 4) (Some (UsableAlgExpr.AddMult first second))
+    (cond (eqb number 5) (Some (UsableAlgExpr.MultAdd first second)) None))))
 
--- ---- what the program's answers say
+-- ---- the number of a length that is there
 
-abbrev pub maybe_number_says : MaybeNumber → Option ℕ
-maybe_number_says (MaybeNumber.Is n) = some n
-maybe_number_says MaybeNumber.None = none
-
-abbrev pub length_says : Length → Option ℕ
-length_says (Length.Is n) = some n.0
-length_says Length.None = none
+abbrev pub length_says : Option Bytes → Option ℕ
+length_says (Some n) = Some n.0
+length_says None = None

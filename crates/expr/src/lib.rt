@@ -3,11 +3,11 @@
 #![tactic(auto)]
 
 ghost use Rattle.std.specs.Prelude.{◌≡◌};
-ghost use Rattle.expr.specs.Forms.{◌then◌, plus as plus_of, times as times_of, less as less_of, over as over_of, forward as forward_of, Back, maybe_number_says, length_says};
+ghost use Rattle.expr.specs.Forms.{over, forward as forward_of, Back, back as back_of, length_says};
 
 use number::Bytes;
 
-#[derive(Clone, Copy)]
+#[derive(Clone, Copy, Debug, PartialEq, Eq)]
 pub enum UsableAlgExpr {
     // x
     IdentOnly,
@@ -21,123 +21,55 @@ pub enum UsableAlgExpr {
     MultAdd(u64, u64),
 }
 
-// A number of 64 bits, where there is one.
-#[derive(Clone, Copy)]
-pub enum MaybeNumber {
-    Is(u64),
-    None,
-}
-
-// A length in bytes, where there is one.
-#[derive(Clone, Copy)]
-pub enum Length {
-    Is(Bytes),
-    None,
-}
-
-impl MaybeNumber {
-    fn plus(self, a: u64) -> MaybeNumber
-        ensures { maybe_number_says result ≡ (maybe_number_says self then plus_of a) }
-    {
-        let MaybeNumber::Is(n) = self else {
-            return MaybeNumber::None;
-        };
-        if u64::MAX - n < a {
-            return MaybeNumber::None;
-        }
-        MaybeNumber::Is(n + a)
-    }
-
-    fn times(self, m: u64) -> MaybeNumber
-        ensures { maybe_number_says result ≡ (maybe_number_says self then times_of m) }
-    {
-        let MaybeNumber::Is(n) = self else {
-            return MaybeNumber::None;
-        };
-        if m == 0 {
-            return MaybeNumber::Is(0);
-        }
-        if u64::MAX / m < n {
-            return MaybeNumber::None;
-        }
-        MaybeNumber::Is(n * m)
-    }
-
-    fn less(self, a: u64) -> MaybeNumber
-        ensures { maybe_number_says result ≡ (maybe_number_says self then less_of a) }
-    {
-        let MaybeNumber::Is(n) = self else {
-            return MaybeNumber::None;
-        };
-        if n < a {
-            return MaybeNumber::None;
-        }
-        MaybeNumber::Is(n - a)
-    }
-
-    fn over(self, m: u64) -> MaybeNumber
-        ensures { maybe_number_says result ≡ (maybe_number_says self then over_of m) }
-    {
-        let MaybeNumber::Is(n) = self else {
-            return MaybeNumber::None;
-        };
-        if m == 0 {
-            return MaybeNumber::None;
-        }
-        if n % m != 0 {
-            return MaybeNumber::None;
-        }
-        MaybeNumber::Is(n / m)
-    }
-
-    fn in_bytes(self) -> Length
-        ensures { length_says result ≡ maybe_number_says self }
-    {
-        match self {
-            MaybeNumber::Is(n) => Length::Is(Bytes(n)),
-            MaybeNumber::None => Length::None,
-        }
-    }
-}
-
 impl UsableAlgExpr {
-    fn forward(self, x: u64) -> MaybeNumber
-        ensures { maybe_number_says result ≡ forward_of self x }
+    #[tactic(auto, unfolding(crate::specs::Forms::in64_bits))]
+    fn forward(self, x: u64) -> Option<u64>
+        ensures { result ≡ forward_of self x }
     {
-        let x = MaybeNumber::Is(x);
         match self {
-            UsableAlgExpr::IdentOnly => x,
-            UsableAlgExpr::SimpleAdd(a) => x.plus(a),
-            UsableAlgExpr::SimpleMult(m) => x.times(m),
-            UsableAlgExpr::AddMult(a, m) => x.plus(a).times(m),
-            UsableAlgExpr::MultAdd(m, a) => x.times(m).plus(a),
+            UsableAlgExpr::IdentOnly => Some(x),
+            UsableAlgExpr::SimpleAdd(a) => x.checked_add(a),
+            UsableAlgExpr::SimpleMult(m) => x.checked_mul(m),
+            UsableAlgExpr::AddMult(a, m) => x.checked_add(a)?.checked_mul(m),
+            UsableAlgExpr::MultAdd(m, a) => x.checked_mul(m)?.checked_add(a),
         }
     }
 
-    fn back(self, y: u64) -> MaybeNumber
-        ensures { Back self y (maybe_number_says result) }
+    #[tactic(auto, unfolding(crate::specs::Forms::less))]
+    fn back(self, y: u64) -> Option<u64>
+        ensures { result ≡ back_of self y }
     {
-        let y = MaybeNumber::Is(y);
         match self {
-            UsableAlgExpr::IdentOnly => y,
-            UsableAlgExpr::SimpleAdd(a) => y.less(a),
-            UsableAlgExpr::SimpleMult(m) => y.over(m),
-            UsableAlgExpr::AddMult(a, m) => y.over(m).less(a),
-            UsableAlgExpr::MultAdd(m, a) => y.less(a).over(m),
+            UsableAlgExpr::IdentOnly => Some(y),
+            UsableAlgExpr::SimpleAdd(a) => y.checked_sub(a),
+            UsableAlgExpr::SimpleMult(m) => whole_quotient(y, m),
+            UsableAlgExpr::AddMult(a, m) => whole_quotient(y, m)?.checked_sub(a),
+            UsableAlgExpr::MultAdd(m, a) => whole_quotient(y.checked_sub(a)?, m),
         }
     }
 
     // The length of a field's value; none where a step passes 2^64 - 1.
-    pub fn exec(self, x: u64) -> Length
+    pub fn exec(self, x: u64) -> Option<Bytes>
         ensures { length_says result ≡ forward_of self x }
     {
-        self.forward(x).in_bytes()
+        Some(Bytes(self.forward(x)?))
     }
 
     // The value whose length this is; none where there is no such value, or a multiplier is 0.
-    pub fn reverse_exec(self, y: Bytes) -> MaybeNumber
-        ensures { Back self y.0 (maybe_number_says result) }
+    pub fn reverse_exec(self, y: Bytes) -> Option<u64>
+        ensures { Back self y.0 result }
     {
         self.back(y.0)
     }
+}
+
+// The number divided, where nothing is left over; by 0 there is no quotient.
+#[tactic(auto, unfolding(crate::specs::Forms::over))]
+fn whole_quotient(n: u64, m: u64) -> Option<u64>
+    ensures { result ≡ over m n }
+{
+    if m == 0 || n % m != 0 {
+        return None;
+    }
+    Some(n / m)
 }

@@ -1,5 +1,6 @@
 -- Step 2 accepts exactly the items of `FieldIs`: `field_is`; and the field that it gives is the one resolved from them: `field-given`. Each test is said exactly,
 -- by the laws of tests; that of the default by the kind of field that the tests before it leave. Assumes nothing.
+use Rattle.std.specs.Prelude.{Option, Some, None}
 use mathlib.Core.Path.{◌≡◌, refl, sym, ap, ◌∙◌}
 use mathlib.Core.Bool.{Bool, true, false, cond, not, ◌&&◌, true≢false}
 use mathlib.Core.Logic.Iff
@@ -20,10 +21,6 @@ use Rattle.types.specs.declared.Arg.{Arg}
 use Rattle.types.specs.Types.{type_code, same_type, is_slice, is_bool_type}
 use Rattle.types.proofs.CodesAndNames.{same-type, same-is, slice-holds-is, slice_is}
 use Rattle.field.specs.declared.DefaultVal.{DefaultVal}
-use Rattle.field.specs.declared.DefinedRepr.{DefinedRepr}
-use Rattle.field.specs.declared.DefinedArg.{DefinedArg}
-use Rattle.field.specs.declared.DefinedDefault.{DefinedDefault}
-use Rattle.field.specs.declared.DefinedGen.{DefinedGen}
 use Rattle.field.specs.declared.Field.{Field}
 use Rattle.field.specs.Fields.{infer_repr, repr_of, arg_of, bad_width, bad_repr, bad_arg, is_bool_arg, bad_bool, bad_bytes, bad_number, fixed_bytes, default_check, field_check, field_of, new_field}
 use Rattle.field.specs.FieldIs.{ReprIs, ArgIs, BoolArg, DefaultIs, absent, for-bool, for-slice, for-number, FieldIs}
@@ -44,17 +41,17 @@ allowed-is a b {P} {Q} p q = (λ e. ⊎_elim (λ h. inl (p.0 h)) (λ h. inr (q.0
     back (inl h) = rw (p.1 h)
     back (inr h) = rw (q.1 h) (never_both (not a) false (λ _ e. true≢false (sym e)))
 
-repr-is : (bits : ℕ) (repr : DefinedRepr) → (bad_repr bits (repr_of bits repr) ≡ false) ↔ ReprIs bits repr
-repr-is bits DefinedRepr.Absent = (λ _. tt, λ _. rw (eq-eqb (type_code (infer_repr bits)) _ refl))
-repr-is bits (DefinedRepr.Given t) =
+repr-is : (bits : ℕ) (repr : Option BuiltinTypes) → (bad_repr bits (repr_of bits repr) ≡ false) ↔ ReprIs bits repr
+repr-is bits None = (λ _. tt, λ _. rw (eq-eqb (type_code (infer_repr bits)) _ refl))
+repr-is bits (Some t) =
     allowed-is (same_type t (infer_repr bits)) (is_slice t && ltb 8 bits && eqb (bits % 8) 0) (same-is t (infer_repr bits))
     (simp (and_is, slice-holds-is, ltb-is, eqb_is) (λ p. (p.0.0, p.0.1, p.1), λ p. ((p.0, p.1), p.2)))
 
-arg_is : (bits : ℕ) (t : BuiltinTypes) (arg : DefinedArg) → (bad_arg bits t (arg_of t arg) ≡ false) ↔ ArgIs bits t arg
-arg_is bits t DefinedArg.Absent = (λ _. tt, λ _. rw (eq-eqb (type_code t) _ refl))
-arg_is bits t (DefinedArg.Given (Arg.BuiltinTypes u)) =
+arg_is : (bits : ℕ) (t : BuiltinTypes) (arg : Option Arg) → (bad_arg bits t (arg_of t arg) ≡ false) ↔ ArgIs bits t arg
+arg_is bits t None = (λ _. tt, λ _. rw (eq-eqb (type_code t) _ refl))
+arg_is bits t (Some (Arg.BuiltinTypes u)) =
     allowed-is (same_type u t) (is_bool_type u && eqb bits 1) (same-is u t) (simp (and_is, same-is, eqb_is) Iff.rfl)
-arg_is bits t (DefinedArg.Given Arg.Code) = (λ _. tt, λ _. refl)
+arg_is bits t (Some Arg.Code) = (λ _. tt, λ _. refl)
 
 -- ---- the two kinds of field
 
@@ -65,7 +62,7 @@ pub record Kind (bits : ℕ) (t : BuiltinTypes) : Type 0 where
   pub code : type_code t ≤ 5
 
 -- the inferred type is of the one kind or the other; a byte slice by choice is of the first
-pub kind : (bits : ℕ) (repr : DefinedRepr) → (64 < bits → bits % 8 ≡ 0) → ReprIs bits repr → Kind bits (repr_of bits repr)
+pub kind : (bits : ℕ) (repr : Option BuiltinTypes) → (64 < bits → bits % 8 ≡ 0) → ReprIs bits repr → Kind bits (repr_of bits repr)
 kind bits repr w = by-repr repr
   where
     inferred : Dec (bits ≤ 64) → Kind bits (infer_repr bits)
@@ -76,10 +73,10 @@ kind bits repr w = by-repr repr
         let s = infer-slice bits (omega arith) in
         record { wide = λ _. s; whole = λ _. (w (omega arith), omega arith); code = rw s (lit≤ tt) }
 
-    by-repr : (repr : DefinedRepr) → ReprIs bits repr → Kind bits (repr_of bits repr)
-    by-repr DefinedRepr.Absent r = inferred (dec_le bits 64)
-    by-repr (DefinedRepr.Given t) (inl e) = rw e (inferred (dec_le bits 64))
-    by-repr (DefinedRepr.Given t) (inr s) = rw s.0 (record { wide = λ _. refl; whole = λ _. (s.2, omega (arith, s.1, s.2)); code = lit≤ tt })
+    by-repr : (repr : Option BuiltinTypes) → ReprIs bits repr → Kind bits (repr_of bits repr)
+    by-repr None r = inferred (dec_le bits 64)
+    by-repr (Some t) (inl e) = rw e (inferred (dec_le bits 64))
+    by-repr (Some t) (inr s) = rw s.0 (record { wide = λ _. refl; whole = λ _. (s.2, omega (arith, s.1, s.2)); code = lit≤ tt })
 
 -- ---- field 4 to 7
 
@@ -104,7 +101,7 @@ module _ (place bits : ℕ) (t : BuiltinTypes) (a : Arg) (some : 1 ≤ bits) (k 
   -- the one test of 4, 5 and 6 that applies leaves one case of the default
   passed_is : (b s : Bool) → is_bool_arg a ≡ b → is_slice t ≡ s → (d : DefaultVal) (fixed : Bool)
       → cond b (refuse (bad_bool d) Group.Field 4 place) (cond s (refuse (bad_bytes bits d) Group.Field 5 place) (refuse (bad_number bits d) Group.Field 6 place)) ≡ accepted
-      → fixed_bytes d fixed ≡ false → DefaultIs bits t a (DefinedDefault.Given d fixed)
+      → fixed_bytes d fixed ≡ false → DefaultIs bits t a (Some (d, fixed))
   passed_is true s p q (DefaultVal.Num n) fixed e f = for-bool ((bool-arg-is a).0 p) (simp (refuse-is, ltb-is-not) at e)
   passed_is true s p q (DefaultVal.Bool b) fixed e f = absurd (never-given refl e)
   passed_is true s p q (DefaultVal.Bytes b) fixed e f = absurd (never-given refl e)
@@ -118,23 +115,23 @@ module _ (place bits : ℕ) (t : BuiltinTypes) (a : Arg) (some : 1 ≤ bits) (k 
   passed_is false false p q (DefaultVal.Bool b) fixed e f = absurd (never-given refl e)
   passed_is false false p q (DefaultVal.Bytes b) fixed e f = absurd (never-given refl e)
 
-  passes : (default : DefinedDefault) → DefaultIs bits t a default → default_check place bits t a default ≡ accepted
+  passes : (default : Option (DefaultVal × Bool)) → DefaultIs bits t a default → default_check place bits t a default ≡ accepted
   passes default absent = refl
   passes default (for-bool e few) = rw ((bool-arg-is a).1 e, le-ltb 1 _ few)
   passes default (for-slice other e size) = rw ((no-bool-is a).1 other, (slice-holds-is t).1 e, eq-eqb _ (bits / 8) size)
   passes default (for-number other number within) =
       rw ((no-bool-is a).1 other, (slice_is t).1 number, max-is bits (λ z. omega arith) (narrow number), le-ltb (2 ^ bits - 1) _ ((within-max bits _).0 within))
 
-  default-is : (default : DefinedDefault) → (default_check place bits t a default ≡ accepted) ↔ DefaultIs bits t a default
+  default-is : (default : Option (DefaultVal × Bool)) → (default_check place bits t a default ≡ accepted) ↔ DefaultIs bits t a default
   default-is default = (known default, passes default)
     where
-      known : (default : DefinedDefault) → default_check place bits t a default ≡ accepted → DefaultIs bits t a default
-      known DefinedDefault.Absent e = absent
-      known (DefinedDefault.Given d fixed) e = let two = simp (both_is, refuse-is) at e in passed_is (is_bool_arg a) (is_slice t) refl refl d fixed two.0 two.1
+      known : (default : Option (DefaultVal × Bool)) → default_check place bits t a default ≡ accepted → DefaultIs bits t a default
+      known None e = absent
+      known (Some (d, fixed)) e = let two = simp (both_is, refuse-is) at e in passed_is (is_bool_arg a) (is_slice t) refl refl d fixed two.0 two.1
 
 -- ---- all of it
 
-module _ (place bits : ℕ) (repr : DefinedRepr) (arg : DefinedArg) (default : DefinedDefault) where
+module _ (place bits : ℕ) (repr : Option BuiltinTypes) (arg : Option Arg) (default : Option (DefaultVal × Bool)) where
   pub field_is : (field_check place bits repr arg default ≡ accepted) ↔ FieldIs bits repr arg default
   unfolding field_check
   field_is = simp (both_is, refuse-is, width_is, repr-is, arg_is) (
@@ -154,7 +151,7 @@ module _ (place bits : ℕ) (repr : DefinedRepr) (arg : DefinedArg) (default : D
   )
 
   -- and gives the field that is resolved from them
-  pub field-given : (gen : DefinedGen) (f : Field) → (new_field place bits repr arg default gen ≡ gives f) ↔ (FieldIs bits repr arg default × (field_of bits repr arg default gen ≡ f))
+  pub field-given : (gen : Option Bool) (f : Field) → (new_field place bits repr arg default gen ≡ gives f) ↔ (FieldIs bits repr arg default × (field_of bits repr arg default gen ≡ f))
   field-given gen f = (
     λ e. let two = given (field_check place bits repr arg default) e in (field_is.0 two.0, two.1),
     λ p. rw (field_is.1 p.0, p.1),

@@ -1,15 +1,13 @@
--- Laws of the type inferred from a width; and one answer. Assumes nothing.
-use mathlib.Core.Path.{◌≡◌, ap}
+-- Laws of the type inferred from a width. Assumes nothing.
+use mathlib.Core.Path.{◌≡◌}
 use mathlib.Core.Bool.{Bool, true, false, cond}
 use Prim.Native.Nat.{ℕ, ◌≤◌, ◌<◌}
 use native.Mathlib.Omega.{arith}
 use lib.Dec.{leb, lit≤}
 use borrow.Author.Tests.{le-leb, lt-leb}
-use Rattle.answer.proofs.OneToOne.{refusal-one}
 use Rattle.types.specs.declared.BuiltinTypes.{BuiltinTypes}
 use Rattle.types.specs.Types.{type_code}
-use Rattle.field.specs.declared.NewField.{NewField}
-use Rattle.field.specs.Fields.{infer_repr, new_field_says}
+use Rattle.field.specs.Fields.{infer_repr}
 
 -- ---- the type inferred from a width
 
@@ -44,11 +42,3 @@ module _ (bits : ℕ) where
       tested false true c = lit≤ tt
       tested false false true = lit≤ tt
       tested false false false = lit≤ tt
-
--- ---- one answer: what the program's answer says tells answers apart
-
-pub new-field-one : (a b : NewField) → new_field_says a ≡ new_field_says b → a ≡ b
-new-field-one (NewField.Is f) (NewField.Is g) e = cc
-new-field-one (NewField.Is f) (NewField.Refused s) e = cc
-new-field-one (NewField.Refused r) (NewField.Is g) e = cc
-new-field-one (NewField.Refused r) (NewField.Refused s) e = ap NewField.Refused (refusal-one r s e)

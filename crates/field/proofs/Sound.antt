@@ -1,5 +1,6 @@
 -- Every field that step 2 accepts is sound: `sound`. It follows from what its items are (`field_is`): the kind of its repr, and the case of its default.
 -- Assumes nothing.
+use Rattle.std.specs.Prelude.{Option, Some, None}
 use mathlib.Core.Path.{◌≡◌, refl, ap}
 use mathlib.Core.Bool.{Bool, true, false, cond}
 use mathlib.Core.Logic.{◌⊎◌, inl, inr}
@@ -12,10 +13,6 @@ use Rattle.types.specs.declared.Arg.{Arg}
 use Rattle.types.specs.Types.{type_code, is_slice}
 use Rattle.types.proofs.CodesAndNames.{slice-holds-is, slice_is}
 use Rattle.field.specs.declared.DefaultVal.{DefaultVal}
-use Rattle.field.specs.declared.DefinedRepr.{DefinedRepr}
-use Rattle.field.specs.declared.DefinedArg.{DefinedArg}
-use Rattle.field.specs.declared.DefinedDefault.{DefinedDefault}
-use Rattle.field.specs.declared.DefinedGen.{DefinedGen}
 use Rattle.field.specs.Fields.{repr_of, arg_of, no_bytes, infer_default, default_of, fixed_of, field_check, field_of}
 use Rattle.field.specs.FieldIs.{ArgIs, BoolArg, DefaultIs, absent, for-bool, for-slice, for-number}
 use Rattle.field.specs.Sound.{Sound}
@@ -25,11 +22,11 @@ use Rattle.field.proofs.FieldIs.{Kind, kind, field_is}
 never-bool : {bits : ℕ} {t : BuiltinTypes} → Kind bits t → t ≡ BuiltinTypes.Bool → ⊥
 never-bool k e = omega (arith, k.code, ap type_code e)
 
-one_bit : {bits : ℕ} {t : BuiltinTypes} → Kind bits t → (arg : DefinedArg) → ArgIs bits t arg → BoolArg (arg_of t arg) → bits ≡ 1
-one_bit k DefinedArg.Absent a b = absurd (never-bool k cc)
-one_bit k (DefinedArg.Given (Arg.BuiltinTypes u)) (inl e) b = absurd (never-bool k cc)
-one_bit k (DefinedArg.Given (Arg.BuiltinTypes u)) (inr e) b = e.1
-one_bit k (DefinedArg.Given Arg.Code) a b = cc
+one_bit : {bits : ℕ} {t : BuiltinTypes} → Kind bits t → (arg : Option Arg) → ArgIs bits t arg → BoolArg (arg_of t arg) → bits ≡ 1
+one_bit k None a b = absurd (never-bool k cc)
+one_bit k (Some (Arg.BuiltinTypes u)) (inl e) b = absurd (never-bool k cc)
+one_bit k (Some (Arg.BuiltinTypes u)) (inr e) b = e.1
+one_bit k (Some Arg.Code) a b = cc
 
 -- what is known of a default, by its case
 abbrev Known : ℕ → BuiltinTypes → Bool → DefaultVal → Type 0
@@ -45,14 +42,14 @@ none-known bits t = tested (is_slice t) refl
     tested true e = ((slice-holds-is t).0 e, inr refl, refl)
     tested false e = (pow_pos bits, (slice_is t).0 e)
 
-known : (bits : ℕ) (t : BuiltinTypes) → Kind bits t → (arg : DefinedArg) → ArgIs bits t arg
-    → (default : DefinedDefault) → DefaultIs bits t (arg_of t arg) default → Known bits t (fixed_of default) (default_of t default)
+known : (bits : ℕ) (t : BuiltinTypes) → Kind bits t → (arg : Option Arg) → ArgIs bits t arg
+    → (default : Option (DefaultVal × Bool)) → DefaultIs bits t (arg_of t arg) default → Known bits t (fixed_of default) (default_of t default)
 known bits t k arg a default absent = none-known bits t
 known bits t k arg a default (for-bool e few) = let one = one_bit k arg a e in (rw one (omega arith), λ s. omega (arith, (k.whole s).1))
 known bits t k arg a default (for-slice other e size) = (e, inl size, refl)
 known bits t k arg a default (for-number other number within) = (within, number)
 
-pub sound : (place bits : ℕ) (repr : DefinedRepr) (arg : DefinedArg) (default : DefinedDefault) (gen : DefinedGen)
+pub sound : (place bits : ℕ) (repr : Option BuiltinTypes) (arg : Option Arg) (default : Option (DefaultVal × Bool)) (gen : Option Bool)
     → field_check place bits repr arg default ≡ accepted → Sound (field_of bits repr arg default gen)
 sound place bits repr arg default gen e =
     let f = (field_is place bits repr arg default).0 e in

@@ -1,19 +1,13 @@
 -- Step 2 of one field: its items, what is refused, and what an absent item stands for. Assumes nothing.
-use Rattle.std.specs.Prelude.{Bool, true, false, cond, not, ◌&&◌, ◌||◌, ℕ, ◌/◌, ◌%◌, leb, ltb, eqb}
-use Rattle.std.proofs.Math.Option.{Option, none, some}
+use Rattle.std.specs.Prelude.{Bool, true, false, cond, not, ◌&&◌, ◌||◌, ℕ, ◌/◌, ◌%◌, leb, ltb, eqb, Option, None, Some}
 use Rattle.answer.specs.declared.Group.{Group}
-use Rattle.answer.specs.Paper.{Answer, gives, Check, accepted, refusal_says, refuse, ◌and_then◌}
+use Rattle.answer.specs.Paper.{Answer, gives, Check, accepted, refuse, ◌and_then◌}
 use Rattle.number.specs.Numbers.{max_bits, max_value}
 use Rattle.types.specs.declared.BuiltinTypes.{BuiltinTypes}
 use Rattle.types.specs.declared.Arg.{Arg}
 use Rattle.field.specs.declared.Span.{Span}
 use Rattle.field.specs.declared.DefaultVal.{DefaultVal}
-use Rattle.field.specs.declared.DefinedRepr.{DefinedRepr}
-use Rattle.field.specs.declared.DefinedArg.{DefinedArg}
-use Rattle.field.specs.declared.DefinedDefault.{DefinedDefault}
-use Rattle.field.specs.declared.DefinedGen.{DefinedGen}
 use Rattle.field.specs.declared.Field.{Field}
-use Rattle.field.specs.declared.NewField.{NewField}
 use Rattle.types.specs.Types.{same_type, is_slice, is_bool_type}
 
 -- ---- what an absent item stands for: repr inferred, arg the repr, default zeros, gen true
@@ -26,13 +20,13 @@ infer_repr bits =
     (cond (leb bits 32) BuiltinTypes.U32
     (cond (leb bits 64) BuiltinTypes.U64 BuiltinTypes.ByteSlice)))
 
-abbrev pub repr_of : ℕ → DefinedRepr → BuiltinTypes
-repr_of bits DefinedRepr.Absent = infer_repr bits
-repr_of bits (DefinedRepr.Given t) = t
+abbrev pub repr_of : ℕ → Option BuiltinTypes → BuiltinTypes
+repr_of bits None = infer_repr bits
+repr_of bits (Some t) = t
 
-abbrev pub arg_of : BuiltinTypes → DefinedArg → Arg
-arg_of repr DefinedArg.Absent = Arg.BuiltinTypes repr
-arg_of repr (DefinedArg.Given a) = a
+abbrev pub arg_of : BuiltinTypes → Option Arg → Arg
+arg_of repr None = Arg.BuiltinTypes repr
+arg_of repr (Some a) = a
 
 -- of bytes all are stated or none, and then they are zeros: of an absent default none are stated
 abbrev pub no_bytes : Span
@@ -41,17 +35,17 @@ no_bytes = record { at = 0; len = 0 }
 abbrev pub infer_default : BuiltinTypes → DefaultVal
 infer_default repr = cond (is_slice repr) (DefaultVal.Bytes no_bytes) (DefaultVal.Num 0)
 
-abbrev pub default_of : BuiltinTypes → DefinedDefault → DefaultVal
-default_of repr DefinedDefault.Absent = infer_default repr
-default_of repr (DefinedDefault.Given d fixed) = d
+abbrev pub default_of : BuiltinTypes → Option (DefaultVal × Bool) → DefaultVal
+default_of repr None = infer_default repr
+default_of repr (Some (d, fixed)) = d
 
-abbrev pub fixed_of : DefinedDefault → Bool
-fixed_of DefinedDefault.Absent = false
-fixed_of (DefinedDefault.Given d fixed) = fixed
+abbrev pub fixed_of : Option (DefaultVal × Bool) → Bool
+fixed_of None = false
+fixed_of (Some (d, fixed)) = fixed
 
-abbrev pub gen_of : DefinedGen → Bool
-gen_of DefinedGen.Absent = true
-gen_of (DefinedGen.Given g) = g
+abbrev pub gen_of : Option Bool → Bool
+gen_of None = true
+gen_of (Some g) = g
 
 -- ---- the tests
 
@@ -86,8 +80,8 @@ bad_bytes bits (DefaultVal.Bytes s) = not (eqb s.len (bits / 8))
 
 -- field 6: a default that is not a number within the width
 abbrev pub over_largest : ℕ → Option ℕ → Bool
-over_largest n (some most) = ltb most n
-over_largest n none = true
+over_largest n (Some most) = ltb most n
+over_largest n None = true
 
 abbrev pub bad_number : ℕ → DefaultVal → Bool
 bad_number bits (DefaultVal.Num n) = over_largest n (max_value bits)
@@ -110,12 +104,12 @@ value_check place bits repr arg d =
     (refuse (bad_number bits d) Group.Field 6 place))
 
 -- then field 7. An absent default passes
-abbrev pub default_check : ℕ → ℕ → BuiltinTypes → Arg → DefinedDefault → Check
-default_check place bits repr arg DefinedDefault.Absent = accepted
-default_check place bits repr arg (DefinedDefault.Given d fixed) =
+abbrev pub default_check : ℕ → ℕ → BuiltinTypes → Arg → Option (DefaultVal × Bool) → Check
+default_check place bits repr arg None = accepted
+default_check place bits repr arg (Some (d, fixed)) =
     value_check place bits repr arg d and_then refuse (fixed_bytes d fixed) Group.Field 7 place
 
-unfoldable pub field_check : ℕ → ℕ → DefinedRepr → DefinedArg → DefinedDefault → Check
+unfoldable pub field_check : ℕ → ℕ → Option BuiltinTypes → Option Arg → Option (DefaultVal × Bool) → Check
 field_check place bits repr arg default =
     refuse (bad_width bits) Group.Field 1 place
     and_then refuse (bad_repr bits (repr_of bits repr)) Group.Field 2 place
@@ -125,7 +119,7 @@ field_check place bits repr arg default =
 -- ---- the field
 
 -- with every item resolved
-abbrev pub field_of : ℕ → DefinedRepr → DefinedArg → DefinedDefault → DefinedGen → Field
+abbrev pub field_of : ℕ → Option BuiltinTypes → Option Arg → Option (DefaultVal × Bool) → Option Bool → Field
 field_of bits repr arg default gen =
     let type = repr_of bits repr in
     record {
@@ -138,13 +132,8 @@ field_of bits repr arg default gen =
     }
 
 -- the field of five items, or the refusal
-abbrev pub new_field : ℕ → ℕ → DefinedRepr → DefinedArg → DefinedDefault → DefinedGen → Answer Field
+abbrev pub new_field : ℕ → ℕ → Option BuiltinTypes → Option Arg → Option (DefaultVal × Bool) → Option Bool → Answer Field
 new_field place bits repr arg default gen = field_check place bits repr arg default and_then gives (field_of bits repr arg default gen)
-
--- what the program's answer says
-abbrev pub new_field_says : NewField → Answer Field
-new_field_says (NewField.Is f) = gives f
-new_field_says (NewField.Refused r) = refusal_says r
 
 -- ---- the write guard
 

@@ -3,59 +3,41 @@
 #![tactic(auto)]
 
 ghost use Rattle.std.specs.Prelude.{◌≡◌};
-ghost use Rattle.answer.specs.declared.Group.{Group};
-ghost use Rattle.answer.specs.Paper.{field_number, verdict_says, refuse as refused_if};
-ghost use Rattle.number.specs.Numbers.{max_value_says};
-ghost use Rattle.types.specs.Types.{is_bool_type};
-ghost use Rattle.field.specs.Fields.{infer_repr, repr_of, arg_of, infer_default, default_of, fixed_of, gen_of, bad_width, bad_repr, bad_arg, is_bool_arg, bad_bool, bad_bytes, over_largest, bad_number, fixed_bytes, value_check, default_check, field_check, field_of, new_field, new_field_says, repr_bytes, write_guard};
+ghost use Rattle.answer.specs.Paper.{says};
+ghost use Rattle.field.specs.Fields.{infer_repr, repr_of, arg_of, infer_default, default_of, fixed_of, bad_width, bad_repr, bad_arg, is_bool_arg, bad_bool, bad_bytes, bad_number, fixed_bytes, value_check, default_check, field_check, field_of, new_field, repr_bytes, write_guard};
 
-use answer::{FieldFault, Refusal, Verdict};
-use number::{Bits, Bytes, MaxValue};
+use answer::{FieldFault, Refusal, refuse};
+use number::{Bits, Bytes};
 use types::{Arg, BuiltinTypes};
 
 // A stretch of bytes in the block of a field.
-#[derive(Clone, Copy)]
+#[derive(Clone, Copy, Debug, PartialEq, Eq)]
 pub struct Span {
     pub at: usize,
     pub len: usize,
 }
 
 // A default: a number, or bytes, those of the span and then zeros. (A bool can be given, but no field is accepted with one.)
-#[derive(Clone, Copy)]
+#[derive(Clone, Copy, Debug, PartialEq, Eq)]
 pub enum DefaultVal {
     Num(u64),
     Bool(bool),
     Bytes(Span),
 }
 
-// The items of a field that may be absent.
-#[derive(Clone, Copy)]
-pub enum DefinedRepr {
-    Absent,
-    Given(BuiltinTypes),
-}
-
-#[derive(Clone, Copy)]
-pub enum DefinedArg {
-    Absent,
-    Given(Arg),
-}
-
-// A default, and whether it is fixed.
-#[derive(Clone, Copy)]
-pub enum DefinedDefault {
-    Absent,
-    Given(DefaultVal, bool),
-}
-
-#[derive(Clone, Copy)]
-pub enum DefinedGen {
-    Absent,
-    Given(bool),
+// What is stated of a field: any item but the width may be absent.
+#[derive(Clone, Copy, Debug, PartialEq, Eq)]
+pub struct Items {
+    pub width: Bits,
+    pub repr: Option<BuiltinTypes>,
+    pub arg: Option<Arg>,
+    // the default, and whether it is fixed
+    pub default: Option<(DefaultVal, bool)>,
+    pub generate: Option<bool>,
 }
 
 // A field with every item resolved.
-#[derive(Clone, Copy)]
+#[derive(Clone, Copy, Debug, PartialEq, Eq)]
 pub struct Field {
     pub width: Bits,
     // how it is held
@@ -66,12 +48,6 @@ pub struct Field {
     // whether its own reading and writing is made public (`gen` in the Rust)
     pub generate: bool,
     pub fixed: bool,
-}
-
-#[derive(Clone, Copy)]
-pub enum NewField {
-    Is(Field),
-    Refused(Refusal),
 }
 
 // ---- what an absent item stands for
@@ -94,25 +70,6 @@ fn infer_repr(width: Bits) -> BuiltinTypes
     BuiltinTypes::ByteSlice
 }
 
-// How a field of this width is held, by what is stated of it.
-pub fn repr_or_inferred(width: Bits, repr: DefinedRepr) -> BuiltinTypes
-    ensures { result ≡ repr_of width.0 repr }
-{
-    match repr {
-        DefinedRepr::Absent => infer_repr(width),
-        DefinedRepr::Given(t) => t,
-    }
-}
-
-fn arg_or_repr(repr: BuiltinTypes, arg: DefinedArg) -> Arg
-    ensures { result ≡ arg_of repr arg }
-{
-    match arg {
-        DefinedArg::Absent => Arg::BuiltinTypes(repr),
-        DefinedArg::Given(a) => a,
-    }
-}
-
 // Of bytes none are stated, so that all are zero.
 fn infer_default_val(repr: BuiltinTypes) -> DefaultVal
     ensures { result ≡ infer_default repr }
@@ -123,40 +80,7 @@ fn infer_default_val(repr: BuiltinTypes) -> DefaultVal
     DefaultVal::Num(0)
 }
 
-fn default_or_zero(repr: BuiltinTypes, default: DefinedDefault) -> DefaultVal
-    ensures { result ≡ default_of repr default }
-{
-    match default {
-        DefinedDefault::Absent => infer_default_val(repr),
-        DefinedDefault::Given(d, _) => d,
-    }
-}
-
-fn is_fixed(default: DefinedDefault) -> bool
-    ensures { result ≡ fixed_of default }
-{
-    match default {
-        DefinedDefault::Absent => false,
-        DefinedDefault::Given(_, fixed) => fixed,
-    }
-}
-
-fn is_generated(generate: DefinedGen) -> bool
-    ensures { result ≡ gen_of generate }
-{
-    match generate {
-        DefinedGen::Absent => true,
-        DefinedGen::Given(g) => g,
-    }
-}
-
 // ---- field 1 to 7, a test each
-
-fn is_bool_type(t: BuiltinTypes) -> bool
-    ensures { result ≡ is_bool_type t }
-{
-    t.same_type(BuiltinTypes::Bool)
-}
 
 // Field 1: a width that no field may have.
 fn bad_width(width: Bits) -> bool
@@ -169,7 +93,7 @@ fn bad_width(width: Bits) -> bool
 fn bad_repr(width: Bits, repr: BuiltinTypes) -> bool
     ensures { result ≡ bad_repr width.0 repr }
 {
-    !repr.same_type(infer_repr(width)) & !(repr.is_slice() & (8 < width.0) & width.is_whole_bytes())
+    (repr != infer_repr(width)) & !(repr.is_slice() & (8 < width.0) & width.is_whole_bytes())
 }
 
 // Field 3: neither the repr, nor bool on 1 bit, nor code.
@@ -177,7 +101,7 @@ fn bad_arg(width: Bits, repr: BuiltinTypes, arg: Arg) -> bool
     ensures { result ≡ bad_arg width.0 repr arg }
 {
     match arg {
-        Arg::BuiltinTypes(t) => !t.same_type(repr) & !(is_bool_type(t) & (width.0 == 1)),
+        Arg::BuiltinTypes(t) => (t != repr) & !((t == BuiltinTypes::Bool) & (width.0 == 1)),
         Arg::Code => false,
     }
 }
@@ -185,20 +109,16 @@ fn bad_arg(width: Bits, repr: BuiltinTypes, arg: Arg) -> bool
 fn is_bool(arg: Arg) -> bool
     ensures { result ≡ is_bool_arg arg }
 {
-    match arg {
-        Arg::BuiltinTypes(t) => is_bool_type(t),
-        Arg::Code => false,
-    }
+    arg == Arg::BuiltinTypes(BuiltinTypes::Bool)
 }
 
-// Field 4: not the number 0 or 1.
+// Field 4: not the number 0 or 1. (A bool, of kind 3, is never one.)
 fn bad_bool(d: DefaultVal) -> bool
     ensures { result ≡ bad_bool d }
 {
     match d {
         DefaultVal::Num(n) => 1 < n,
-        DefaultVal::Bool(_) => true, // of kind 3: never
-        DefaultVal::Bytes(_) => true,
+        DefaultVal::Bool(_) | DefaultVal::Bytes(_) => true,
     }
 }
 
@@ -207,19 +127,8 @@ fn bad_bytes(width: Bits, d: DefaultVal) -> bool
     ensures { result ≡ bad_bytes width.0 d }
 {
     match d {
-        DefaultVal::Num(_) => true,
-        DefaultVal::Bool(_) => true,
+        DefaultVal::Num(_) | DefaultVal::Bool(_) => true,
         DefaultVal::Bytes(s) => (s.len as u64) != width.whole_bytes().0,
-    }
-}
-
-// Whether a number is over the largest value.
-fn is_over(n: u64, most: MaxValue) -> bool
-    ensures { result ≡ over_largest n (max_value_says most) }
-{
-    match most {
-        MaxValue::Is(m) => m < n,
-        MaxValue::None => true,
     }
 }
 
@@ -227,10 +136,12 @@ fn is_over(n: u64, most: MaxValue) -> bool
 fn bad_number(width: Bits, d: DefaultVal) -> bool
     ensures { result ≡ bad_number width.0 d }
 {
-    match d {
-        DefaultVal::Num(n) => is_over(n, number::max_value(width)),
-        DefaultVal::Bool(_) => true,
-        DefaultVal::Bytes(_) => true,
+    let DefaultVal::Num(n) = d else {
+        return true;
+    };
+    match number::max_value(width) {
+        Some(most) => most < n,
+        None => true,
     }
 }
 
@@ -239,75 +150,122 @@ fn fixed_bytes(d: DefaultVal, fixed: bool) -> bool
     ensures { result ≡ fixed_bytes d fixed }
 {
     match d {
-        DefaultVal::Num(_) => false,
-        DefaultVal::Bool(_) => false,
+        DefaultVal::Num(_) | DefaultVal::Bool(_) => false,
         DefaultVal::Bytes(_) => fixed,
     }
 }
 
 // ---- the tests in order
 
-// Refused for this reason where the test holds.
-fn refuse(test: bool, fault: FieldFault, place: usize) -> Verdict
-    ensures { verdict_says result ≡ refused_if test Group.Field (field_number fault) place }
-{
-    Verdict::refuse(test, Refusal::Field(fault, place))
-}
-
-fn check_value(place: usize, width: Bits, repr: BuiltinTypes, arg: Arg, d: DefaultVal) -> Verdict
-    ensures { verdict_says result ≡ value_check place width.0 repr arg d }
-{
-    if is_bool(arg) {
-        return refuse(bad_bool(d), FieldFault::BoolDefaultNotZeroOrOne, place);
-    }
-    if repr.is_slice() {
-        return refuse(
-            bad_bytes(width, d),
-            FieldFault::SliceDefaultNotItsBytes,
-            place,
-        );
-    }
-    refuse(
-        bad_number(width, d),
-        FieldFault::NumberDefaultNotInWidth,
-        place,
-    )
-}
-
-fn check_default(
+fn check_value(
     place: usize,
     width: Bits,
     repr: BuiltinTypes,
     arg: Arg,
-    default: DefinedDefault,
-) -> Verdict
-    ensures { verdict_says result ≡ default_check place width.0 repr arg default }
+    d: DefaultVal,
+) -> Result<(), Refusal>
+    ensures { says result ≡ value_check place width.0 repr arg d }
 {
-    let DefinedDefault::Given(d, fixed) = default else {
-        return Verdict::Accepted;
+    let (bad, fault) = if is_bool(arg) {
+        (bad_bool(d), FieldFault::BoolDefaultNotZeroOrOne)
+    } else if repr.is_slice() {
+        (bad_bytes(width, d), FieldFault::SliceDefaultNotItsBytes)
+    } else {
+        (bad_number(width, d), FieldFault::NumberDefaultNotInWidth)
     };
-    let value = check_value(place, width, repr, arg, d);
-    let fixing = refuse(fixed_bytes(d, fixed), FieldFault::BytesDefaultFixed, place);
-    value.and_then(fixing)
+    refuse(bad, Refusal::Field(fault, place))
 }
 
-// Field 1 to 7 of the items, in order; a refusal has the place given.
-pub fn check_items(
-    place: usize,
-    width: Bits,
-    repr: DefinedRepr,
-    arg: DefinedArg,
-    default: DefinedDefault,
-) -> Verdict
-    ensures { verdict_says result ≡ field_check place width.0 repr arg default }
-{
-    let t = repr_or_inferred(width, repr);
-    let a = arg_or_repr(t, arg);
-    let wide = refuse(bad_width(width), FieldFault::WidthNotAllowed, place);
-    let held = refuse(bad_repr(width, t), FieldFault::ReprNotAllowed, place);
-    let handed = refuse(bad_arg(width, t, a), FieldFault::ArgNotAllowed, place);
-    let value = check_default(place, width, t, a, default);
-    wide.and_then(held.and_then(handed.and_then(value)))
+impl Items {
+    // How the field is held.
+    pub fn repr_or_inferred(self) -> BuiltinTypes
+        ensures { result ≡ repr_of self.width.0 self.repr }
+    {
+        self.repr.unwrap_or(infer_repr(self.width))
+    }
+
+    fn arg_or_repr(self, repr: BuiltinTypes) -> Arg
+        ensures { result ≡ arg_of repr self.arg }
+    {
+        self.arg.unwrap_or(Arg::BuiltinTypes(repr))
+    }
+
+    fn default_or_zero(self, repr: BuiltinTypes) -> DefaultVal
+        ensures { result ≡ default_of repr self.default }
+    {
+        match self.default {
+            Some((d, _)) => d,
+            None => infer_default_val(repr),
+        }
+    }
+
+    fn is_fixed(self) -> bool
+        ensures { result ≡ fixed_of self.default }
+    {
+        match self.default {
+            Some((_, fixed)) => fixed,
+            None => false,
+        }
+    }
+
+    // Field 4 to 7: what is stated as the default.
+    fn check_default(self, place: usize, repr: BuiltinTypes, arg: Arg) -> Result<(), Refusal>
+        ensures { says result ≡ default_check place self.width.0 repr arg self.default }
+    {
+        let Some((d, fixed)) = self.default else {
+            return Ok(());
+        };
+        check_value(place, self.width, repr, arg, d)?;
+        refuse(
+            fixed_bytes(d, fixed),
+            Refusal::Field(FieldFault::BytesDefaultFixed, place),
+        )
+    }
+
+    // Field 1 to 7 in order; a refusal has the place given.
+    #[tactic(auto, unfolding(crate::specs::Fields::field_check))]
+    pub fn check(self, place: usize) -> Result<(), Refusal>
+        ensures { says result ≡ field_check place self.width.0 self.repr self.arg self.default }
+    {
+        let repr = self.repr_or_inferred();
+        let arg = self.arg_or_repr(repr);
+        refuse(
+            bad_width(self.width),
+            Refusal::Field(FieldFault::WidthNotAllowed, place),
+        )?;
+        refuse(
+            bad_repr(self.width, repr),
+            Refusal::Field(FieldFault::ReprNotAllowed, place),
+        )?;
+        refuse(
+            bad_arg(self.width, repr, arg),
+            Refusal::Field(FieldFault::ArgNotAllowed, place),
+        )?;
+        self.check_default(place, repr, arg)
+    }
+
+    // Every absent item replaced by what it stands for; nothing is checked.
+    pub fn resolved(self) -> Field
+        ensures { result ≡ field_of self.width.0 self.repr self.arg self.default self.generate }
+    {
+        let repr = self.repr_or_inferred();
+        Field {
+            width: self.width,
+            repr,
+            arg: self.arg_or_repr(repr),
+            default: self.default_or_zero(repr),
+            generate: self.generate.unwrap_or(true),
+            fixed: self.is_fixed(),
+        }
+    }
+
+    // The field of the items; a refusal has the place given.
+    pub fn field(self, place: usize) -> Result<Field, Refusal>
+        ensures { says result ≡ new_field place self.width.0 self.repr self.arg self.default self.generate }
+    {
+        self.check(place)?;
+        Ok(self.resolved())
+    }
 }
 
 // The bytes of a repr.
@@ -315,12 +273,11 @@ fn repr_bytes(width: Bits, repr: BuiltinTypes) -> Bytes
     ensures { result.0 ≡ repr_bytes width.0 repr }
 {
     match repr {
-        BuiltinTypes::U8 => Bytes(1),
+        BuiltinTypes::U8 | BuiltinTypes::Bool => Bytes(1),
         BuiltinTypes::U16 => Bytes(2),
         BuiltinTypes::U32 => Bytes(4),
         BuiltinTypes::U64 => Bytes(8),
         BuiltinTypes::ByteSlice => width.whole_bytes(),
-        BuiltinTypes::Bool => Bytes(1),
     }
 }
 
@@ -328,61 +285,29 @@ impl Field {
     // The field of five items, as the Rust's `Field::new`; alone a refusal has place 0.
     pub fn new(
         width: Bits,
-        repr: DefinedRepr,
-        arg: DefinedArg,
-        default: DefinedDefault,
-        generate: DefinedGen,
-    ) -> NewField
-        ensures { new_field_says result ≡ new_field 0 width.0 repr arg default generate }
+        repr: Option<BuiltinTypes>,
+        arg: Option<Arg>,
+        default: Option<(DefaultVal, bool)>,
+        generate: Option<bool>,
+    ) -> Result<Field, Refusal>
+        ensures { says result ≡ new_field 0 width.0 repr arg default generate }
     {
-        Field::new_at(0, width, repr, arg, default, generate)
-    }
-
-    // The same with a place of its own.
-    pub fn new_at(
-        place: usize,
-        width: Bits,
-        repr: DefinedRepr,
-        arg: DefinedArg,
-        default: DefinedDefault,
-        generate: DefinedGen,
-    ) -> NewField
-        ensures { new_field_says result ≡ new_field place width.0 repr arg default generate }
-    {
-        let v = check_items(place, width, repr, arg, default);
-        if let Verdict::Refused(reason) = v {
-            return NewField::Refused(reason);
-        }
-        NewField::Is(Field::resolved(width, repr, arg, default, generate))
-    }
-
-    // Every absent item replaced by what it stands for; nothing is checked.
-    pub fn resolved(
-        width: Bits,
-        repr: DefinedRepr,
-        arg: DefinedArg,
-        default: DefinedDefault,
-        generate: DefinedGen,
-    ) -> Field
-        ensures { result ≡ field_of width.0 repr arg default generate }
-    {
-        let t = repr_or_inferred(width, repr);
-        Field {
+        Items {
             width,
-            repr: t,
-            arg: arg_or_repr(t, arg),
-            default: default_or_zero(t, default),
-            generate: is_generated(generate),
-            fixed: is_fixed(default),
+            repr,
+            arg,
+            default,
+            generate,
         }
+        .field(0)
     }
 
     // Whether a write to the field has to be guarded.
     pub fn need_write_guard(self) -> bool
         ensures { result ≡ write_guard self }
     {
-        let width = self.width;
-        let repr = self.repr;
-        self.fixed | !width.is_whole_bytes() | (width.whole_bytes().0 != repr_bytes(width, repr).0)
+        self.fixed
+            | !self.width.is_whole_bytes()
+            | (self.width.whole_bytes() != repr_bytes(self.width, self.repr))
     }
 }

@@ -3,7 +3,7 @@
 use mathlib.Core.Path.{◌≡◌, refl, ◌∙◌}
 use mathlib.Core.Bool.{not}
 use mathlib.Core.List.{List}
-use mathlib.Core.Option.{none}
+use Rattle.std.specs.Prelude.{None}
 use Prim.Native.Nat.{ℕ, ◌<◌}
 use native.Mathlib.Omega.{arith}
 use lib.Dec.{eqb}
@@ -24,7 +24,7 @@ use Rattle.field_blocks.specs.ItemsRead.{defined_repr_code, defined_arg_code, de
 
 -- ---- codes: what leaves each code below n as it is
 
-same_code : (f : ℕ → ℕ) (n : ℕ) → first_where (λ c. not (eqb (f c) c)) n ≡ none → (c : ℕ) → c < n → f c ≡ c
+same_code : (f : ℕ → ℕ) (n : ℕ) → first_where (λ c. not (eqb (f c) c)) n ≡ None → (c : ℕ) → c < n → f c ≡ c
 same_code f n h c l = eqb-true (f c) c ((not_is (eqb (f c) c)).0 (where-nowhere (λ c. not (eqb (f c) c)) n h c l))
 
 module _ (b : List ℕ) where

@@ -1,11 +1,11 @@
 -- Laws of names: exactly when a lookup finds nothing, and exactly which field it finds; that a key not met before is that of a new name; and that
 -- its answer is one. Assumes nothing.
-use mathlib.Core.Path.{◌≡◌, refl, sym, ◌∙◌}
+use mathlib.Core.Path.{◌≡◌, sym, ◌∙◌}
 use mathlib.Core.Bool.{Bool, true, false}
 use mathlib.Core.List.{List}
 use mathlib.Core.Logic.Iff
 use mathlib.Core.Logic.{◌⊎◌, inl, inr, ◌↔◌}
-use mathlib.Core.Option.{some}
+use Rattle.std.specs.Prelude.{Some}
 use Prim.Native.Nat.{ℕ, ◌+◌, ◌<◌}
 use native.Mathlib.Nat.{eq-or-lt_of_le, mod-lt}
 use native.Mathlib.Decide.{ℕ_discrete}
@@ -15,8 +15,7 @@ use lib.ListN.{length, replicate, get_or, set, length-replicate, length-set}
 use lib.Seq.{get_or-set_same, get_or-set_other}
 use Rattle.octets.proofs.Octets.{same-is, same-is-not}
 use Rattle.sheet.specs.Blocks.{field_count}
-use Rattle.header.specs.declared.FieldIndex.{FieldIndex}
-use Rattle.header.specs.Names.{name_at, named_among, field_named, field_index_says}
+use Rattle.header.specs.Names.{name_at, named_among, field_named}
 use Rattle.header.specs.Working.{key_of}
 use Rattle.answer.specs.Walk.{is_some}
 use Rattle.answer.proofs.Walk.{where-at, where_found, where-nowhere, where-nothing, nowhere-is}
@@ -34,7 +33,7 @@ module _ (s name : List ℕ) where
     pub has : name_at s i ≡ name
     pub before : (j : ℕ) → j < i → name_at s j ≡ name → ⊥
 
-  pub found-is : (i : ℕ) → (field_named s name ≡ some i) ↔ FirstNamed i
+  pub found-is : (i : ℕ) → (field_named s name ≡ Some i) ↔ FirstNamed i
   found-is i = (
     λ e.
         let at = where_found _ (field_count s) i e in
@@ -67,11 +66,3 @@ marked_more {s} {i} {k} {keys} m e = record { size = length-set keys k true ∙ 
 -- so a name whose key is not marked is none of theirs
 pub unmarked : {s : List ℕ} (name : List ℕ) {i k : ℕ} {keys : List Bool} → Marked s i keys → k ≡ key_of name → get_or keys k false ≡ false → is_some (named_among s name i) ≡ false
 unmarked {s} name {i} m e f = (none_named s name i).1 (λ j h q. let z : ◌≡◌ {A = ℕ} 0 1 = cc (m.met j h) in omega arith)
-
--- ---- one answer: what the program's answer says of a name tells answers apart
-
-pub index-one : (p q : FieldIndex) → field_index_says p ≡ field_index_says q → p ≡ q
-index-one (FieldIndex.At i) (FieldIndex.At j) e = cc
-index-one (FieldIndex.At i) FieldIndex.None e = cc
-index-one FieldIndex.None (FieldIndex.At j) e = cc
-index-one FieldIndex.None FieldIndex.None e = refl

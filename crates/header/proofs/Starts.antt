@@ -1,5 +1,7 @@
 -- The fields of a sheet as a list: how many, where each starts, that they lie in the header and one behind the other, with every bit in one of them;
 -- and that a start's answer is one. Assumes nothing.
+use Rattle.bits.specs.declared.BitPos.{BitPos}
+use Rattle.std.specs.Prelude.{Option, Some, None}
 use mathlib.Core.Path.{◌≡◌, refl, ap}
 use mathlib.Core.List.{List}
 use Prim.Native.Nat.{ℕ, ◌+◌, ◌≤◌, ◌<◌}
@@ -11,7 +13,6 @@ use Rattle.field_blocks.specs.Step.{field_at}
 use Rattle.layout.specs.Layout.{field, bits, start, In}
 use Rattle.layout.proofs.Starts as places
 use Rattle.layout.proofs.Indexed.{position_later, length-listed, field-listed, bits-listed, start-listed}
-use Rattle.header.specs.declared.FieldStart.{FieldStart}
 use Rattle.header.specs.Starts.{header_field_at, header_layout, start_at, bits_of, field_start_says}
 
 module _ (s : List ℕ) where
@@ -47,8 +48,8 @@ module _ (s : List ℕ) where
 
 -- ---- one answer: what the program's answer says of a start tells answers apart
 
-pub start-one : (p q : FieldStart) → field_start_says p ≡ field_start_says q → p ≡ q
-start-one (FieldStart.At p) (FieldStart.At q) e = ap FieldStart.At (position-one p q cc)
-start-one (FieldStart.At p) FieldStart.None e = cc
-start-one FieldStart.None (FieldStart.At q) e = cc
-start-one FieldStart.None FieldStart.None e = refl
+pub start-one : (p q : Option BitPos) → field_start_says p ≡ field_start_says q → p ≡ q
+start-one (Some p) (Some q) e = ap Some (position-one p q cc)
+start-one (Some p) None e = cc
+start-one None (Some q) e = cc
+start-one None None e = refl

@@ -1,17 +1,15 @@
--- Step 3 in the cases that `Header::new` meets, and that its answer is one. Assumes nothing.
-use mathlib.Core.Path.{◌≡◌, ap}
-use mathlib.Core.Bool.{true, false}
+-- Step 3 in the cases that `Header::new` meets. Assumes nothing.
+use mathlib.Core.Path.{◌≡◌}
+use mathlib.Core.Bool.{not}
 use mathlib.Core.List.{List}
 use Prim.Native.Nat.{ℕ, ◌/◌, ◌%◌, ◌<◌}
 use lib.Dec.{eqb}
 use Rattle.answer.specs.declared.Group.{Group}
-use Rattle.answer.specs.Paper.{gives, refused, accepted, first}
+use Rattle.answer.specs.Paper.{gives, refused, accepted, refuse, first}
 use Rattle.answer.proofs.Chains.{stand, first-stop}
-use Rattle.answer.proofs.OneToOne.{refusal-one}
 use Rattle.sheet.specs.Blocks.{block_count, field_count}
-use Rattle.header.specs.declared.NewHeader.{NewHeader}
 use Rattle.header.specs.Starts.{start_at}
-use Rattle.header.specs.Step.{header_fault, header_check, new_header, new_header_says}
+use Rattle.header.specs.Step.{header_fault, header_check, new_header}
 
 -- ---- all fields
 
@@ -22,18 +20,9 @@ new-stops s i h before e = stand _ (stand _ (first-stop (header_fault s) i (fiel
 
 -- past all fields header 6 decides
 module _ (s : List ℕ) (i : ℕ) {bits : ℕ} (all : i ≡ field_count s) (ok : first (header_fault s) i ≡ accepted) (sum : bits ≡ start_at s i) where
-  pub new-odd : eqb (bits % 8) 0 ≡ false → new_header s ≡ refused Group.Header 6 (block_count s)
+  pub last-decides : header_check s ≡ refuse (not (eqb (bits % 8) 0)) Group.Header 6 (block_count s)
   unfolding header_check
-  new-odd e = rw (← all, ok, ← sum, e)
+  last-decides = rw (← all, ok, ← sum)
 
-  pub new-whole : {n len : ℕ} → eqb (bits % 8) 0 ≡ true → n ≡ field_count s → len ≡ bits / 8 → new_header s ≡ gives (record { fields = n; len = record { 0 = len } })
-  unfolding header_check
-  new-whole e p q = rw (p, q, ← all, ok, ← sum, e)
-
--- ---- one answer: what the program's answer says of a header tells answers apart
-
-pub new-header-one : (p q : NewHeader) → new_header_says p ≡ new_header_says q → p ≡ q
-new-header-one (NewHeader.Is h) (NewHeader.Is k) e = cc
-new-header-one (NewHeader.Is h) (NewHeader.Refused r) e = cc
-new-header-one (NewHeader.Refused r) (NewHeader.Is h) e = cc
-new-header-one (NewHeader.Refused r) (NewHeader.Refused q) e = ap NewHeader.Refused (refusal-one r q e)
+  pub new-given : {n len : ℕ} → header_check s ≡ accepted → n ≡ field_count s → len ≡ bits / 8 → gives (record { fields = n; len = record { 0 = len } }) ≡ new_header s
+  new-given e p q = rw (e, p, q, ← all, ← sum)

@@ -1,11 +1,9 @@
 -- The names of a sheet's fields, and the field that a name means. Assumes nothing.
-use Rattle.std.specs.Prelude.{Bool, List, ℕ}
-use Rattle.std.proofs.Math.Option.{Option, none, some}
+use Rattle.std.specs.Prelude.{Bool, List, ℕ, Option}
 use Rattle.octets.specs.Octets.{same}
 use Rattle.octets.specs.Ascii.{ascii}
 use Rattle.blocks.specs.Layout.{name_of}
 use Rattle.sheet.specs.Blocks.{block_at, field_count}
-use Rattle.header.specs.declared.FieldIndex.{FieldIndex}
 use Rattle.answer.specs.Walk.{first_where}
 
 -- the name of field i
@@ -19,11 +17,6 @@ named_among s name n = first_where (λ i. same (name_at s i) name) n
 -- the field of a name
 abbrev pub field_named : List ℕ → List ℕ → Option ℕ
 field_named s name = named_among s name (field_count s)
-
--- what the program's answer says
-abbrev pub field_index_says : FieldIndex → Option ℕ
-field_index_says (FieldIndex.At i) = some i
-field_index_says FieldIndex.None = none
 
 -- no field may be named `type`
 abbrev pub type_word : List ℕ

@@ -1,6 +1,5 @@
 -- The fields of a sheet as the list that makes a header, and where each of them starts. Assumes nothing.
-use Rattle.std.specs.Prelude.{cond, ◌&&◌, List, ℕ, ◌+◌, ltb}
-use Rattle.std.proofs.Math.Option.{Option, none, some}
+use Rattle.std.specs.Prelude.{cond, ◌&&◌, List, ℕ, ◌+◌, ltb, Option, None, Some}
 use Rattle.std.proofs.Math.Seq.{slice}
 use Rattle.bits.specs.Bits.{spelled}
 use Rattle.bits.specs.Positions.{global_of}
@@ -12,7 +11,7 @@ use Rattle.field.specs.Sound.{width_of}
 use Rattle.field_blocks.specs.Step.{field_at}
 use Rattle.layout.specs.Layout.{HeaderField}
 use Rattle.layout.specs.Indexed.{fields_from, position}
-use Rattle.header.specs.declared.FieldStart.{FieldStart}
+use Rattle.bits.specs.declared.BitPos.{BitPos}
 
 -- the number that a default's bits spell. Bytes are those of the span; an absent default has an empty span, and so is 0
 abbrev pub default_number : List ℕ → DefaultVal → ℕ
@@ -41,9 +40,9 @@ bits_of s = start_at s (field_count s)
 
 -- the start of a field, where there is such a field; a sheet has at most 64
 unfoldable pub start_of : List ℕ → ℕ → Option ℕ
-start_of s i = cond (ltb i 64 && ltb i (field_count s)) (some (start_at s i)) none
+start_of s i = cond (ltb i 64 && ltb i (field_count s)) (Some (start_at s i)) None
 
--- what the program's answer says
-abbrev pub field_start_says : FieldStart → Option ℕ
-field_start_says (FieldStart.At p) = some (global_of p)
-field_start_says FieldStart.None = none
+-- the number of a start that is there
+abbrev pub field_start_says : Option BitPos → Option ℕ
+field_start_says (Some p) = Some (global_of p)
+field_start_says None = None

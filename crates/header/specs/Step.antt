@@ -1,7 +1,7 @@
 -- Step 3: whether the fields of a sheet make a header. Assumes nothing.
 use Rattle.std.specs.Prelude.{Bool, not, ◌&&◌, List, ℕ, ◌+◌, ◌/◌, ◌%◌, leb, ltb, eqb}
 use Rattle.answer.specs.declared.Group.{Group}
-use Rattle.answer.specs.Paper.{Answer, gives, Check, refusal_says, refuse, ◌and_then◌, first}
+use Rattle.answer.specs.Paper.{Answer, gives, Check, refuse, ◌and_then◌, first}
 use Rattle.answer.specs.Walk.{is_some}
 use Rattle.number.specs.Numbers.{max_bytes}
 use Rattle.bits.specs.Bits.{touched}
@@ -11,7 +11,6 @@ use Rattle.types.specs.Types.{is_slice}
 use Rattle.field.specs.Sound.{width_of}
 use Rattle.field_blocks.specs.Step.{field_at}
 use Rattle.header.specs.declared.Header.{Header}
-use Rattle.header.specs.declared.NewHeader.{NewHeader}
 use Rattle.header.specs.Names.{name_at, named_among, is_reserved}
 use Rattle.header.specs.Starts.{start_at, bits_of}
 
@@ -58,8 +57,3 @@ header_of s = record { fields = field_count s; len = record { 0 = header_bytes s
 -- the header of a sheet's fields, or the refusal
 abbrev pub new_header : List ℕ → Answer Header
 new_header s = header_check s and_then gives (header_of s)
-
--- what the program's answer says
-abbrev pub new_header_says : NewHeader → Answer Header
-new_header_says (NewHeader.Is h) = gives h
-new_header_says (NewHeader.Refused r) = refusal_says r

@@ -3,51 +3,30 @@
 #![tactic(auto)]
 
 ghost use Rattle.std.specs.Prelude.{◌≡◌, false, ◌+◌, ◌-◌, ◌≤◌, ◌<◌, ◌^◌, length};
-ghost use Rattle.answer.specs.declared.Group.{Group};
-ghost use Rattle.answer.specs.Paper.{header_number, verdict_says, refuse as refused_if};
+ghost use Rattle.answer.specs.Paper.{says};
 ghost use Rattle.answer.specs.Walk.{is_some};
 ghost use Rattle.octets.specs.Octets.{be, same};
 ghost use Rattle.bits.specs.Positions.{global_of};
 ghost use Rattle.blocks.specs.Layout.{name_of};
 ghost use Rattle.field.specs.Sound.{width_of};
 ghost use Rattle.field_blocks.specs.Step.{field_at};
-ghost use Rattle.header.specs.Names.{named_among, field_named, field_index_says, is_reserved};
+ghost use Rattle.header.specs.Names.{named_among, field_named, is_reserved};
 ghost use Rattle.header.specs.Starts.{start_at, start_of, field_start_says};
-ghost use Rattle.header.specs.Step.{used_before, over_eight, off_boundary, too_long, header_fault, new_header, new_header_says};
+ghost use Rattle.header.specs.Step.{used_before, over_eight, off_boundary, too_long, header_fault, new_header};
 ghost use Rattle.header.specs.Working.{key_of};
 
-use answer::{HeaderFault, Refusal, Verdict};
+use answer::{HeaderFault, Refusal, refuse};
 use bits::BitPos;
 use blocks::name;
 use number::{Bits, Bytes};
 use octets::{be16, byte_at, same_bytes};
 use types::BuiltinTypes;
 
-// The field that a name means, if there is one.
-#[derive(Clone, Copy)]
-pub enum FieldIndex {
-    At(usize),
-    None,
-}
-
-// Where a field starts, if there is such a field.
-#[derive(Clone, Copy)]
-pub enum FieldStart {
-    At(BitPos),
-    None,
-}
-
 // How many fields a header has, and how long it is.
-#[derive(Clone, Copy)]
+#[derive(Clone, Copy, Debug, PartialEq, Eq)]
 pub struct Header {
     pub fields: usize,
     pub len: Bytes,
-}
-
-#[derive(Clone, Copy)]
-pub enum NewHeader {
-    Is(Header),
-    Refused(Refusal),
 }
 
 // ---- names
@@ -59,22 +38,20 @@ fn has_name(b: &[u8], wanted: &[u8]) -> bool
 }
 
 // The first of the first n fields that has a name.
-fn named_among(s: &[u8], wanted: &[u8], n: usize) -> FieldIndex
-    ensures { field_index_says result ≡ named_among s.now wanted.now n }
+fn named_among(s: &[u8], wanted: &[u8], n: usize) -> Option<usize>
+    ensures { result ≡ named_among s.now wanted.now n }
 {
-    let mut i = 0;
-    while i < n {
+    for i in 0..n {
         if has_name(sheet::block(s, i), wanted) {
-            return FieldIndex::At(i);
+            return Some(i);
         }
-        i += 1;
     }
-    FieldIndex::None
+    None
 }
 
-// The field of a name: the first that has it.
-pub fn unchecked_field_named(s: &[u8], wanted: &[u8]) -> FieldIndex
-    ensures { field_index_says result ≡ field_named s.now wanted.now }
+// The field that a name means: the first that has it.
+pub fn unchecked_field_named(s: &[u8], wanted: &[u8]) -> Option<usize>
+    ensures { result ≡ field_named s.now wanted.now }
 {
     named_among(s, wanted, sheet::block_counts(s).fields)
 }
@@ -105,13 +82,7 @@ fn used_before(s: &[u8], wanted: &[u8], i: usize, met: bool) -> bool
     requires { met ≡ false → is_some (named_among s.now wanted.now i) ≡ false }
     ensures { result ≡ is_some (named_among s.now wanted.now i) }
 {
-    if !met {
-        return false;
-    }
-    match named_among(s, wanted, i) {
-        FieldIndex::At(_) => true,
-        FieldIndex::None => false,
-    }
+    met && named_among(s, wanted, i).is_some()
 }
 
 fn is_reserved(wanted: &[u8]) -> bool
@@ -128,22 +99,20 @@ fn bits_before(s: &[u8], n: usize) -> Bits
     ensures { result.0 ≡ start_at s.now n }
 {
     let mut sum: u64 = 0;
-    let mut i = 0;
-    while i < n {
+    for i in 0..n {
         sum += field_blocks::bits_in(sheet::block(s, i)).0;
-        i += 1;
     }
     Bits(sum)
 }
 
-// Where field i starts.
-pub fn unchecked_start(s: &[u8], i: usize) -> FieldStart
+// Where field i starts, if there is such a field.
+pub fn unchecked_start(s: &[u8], i: usize) -> Option<BitPos>
     ensures { field_start_says result ≡ start_of s.now i }
 {
     if (i < 64) & (i < sheet::block_counts(s).fields) {
-        return FieldStart::At(BitPos::new(bits_before(s, i)));
+        return Some(BitPos::new(bits_before(s, i)));
     }
-    FieldStart::None
+    None
 }
 
 // ---- header 1 to 5, a test each
@@ -169,14 +138,8 @@ fn too_long(bits: Bits) -> bool
     bits.whole_bytes().over_max()
 }
 
-// Field i refused for this reason where the test holds.
-fn refuse(test: bool, fault: HeaderFault, i: usize) -> Verdict
-    ensures { verdict_says result ≡ refused_if test Group.Header (header_number fault) i }
-{
-    Verdict::refuse(test, Refusal::Header(fault, i))
-}
-
 // Header 1 to 5 of field i: by whether its name was used before, where it starts, how wide it is and how it is held.
+#[tactic(auto, unfolding(crate::specs::Step::header_fault))]
 fn field_fault(
     s: &[u8],
     i: usize,
@@ -184,62 +147,58 @@ fn field_fault(
     start: Bits,
     width: Bits,
     repr: BuiltinTypes,
-) -> Verdict
+) -> Result<(), Refusal>
     requires used_value { used ≡ used_before s.now i }
     requires start_value { start.0 ≡ start_at s.now i }
     requires width_value { width.0 ≡ width_of (field_at s.now i) }
     requires repr_value { repr ≡ (field_at s.now i).repr }
     requires width_bound { start.0 + width.0 < 2 ^ 64 }
-    ensures { verdict_says result ≡ header_fault s.now i }
+    ensures { says result ≡ header_fault s.now i }
 {
     let at = BitPos::new(start);
-    let again = refuse(used, HeaderFault::NameUsedBefore, i);
-    let reserved = refuse(
-        is_reserved(name(sheet::block(s, i))),
-        HeaderFault::NameReserved,
-        i,
-    );
-    let spread = refuse(over_eight(at, width), HeaderFault::TouchesOverEightBytes, i);
-    let off = refuse(off_boundary(at, repr), HeaderFault::SliceOffByteBoundary, i);
-    let long = refuse(
-        too_long(Bits(start.0 + width.0)),
-        HeaderFault::HeaderTooLong,
-        i,
-    );
-    again.and_then(reserved.and_then(spread.and_then(off.and_then(long))))
+    let reserved = is_reserved(name(sheet::block(s, i)));
+    let end = Bits(start.0 + width.0);
+    refuse(used, Refusal::Header(HeaderFault::NameUsedBefore, i))?;
+    refuse(reserved, Refusal::Header(HeaderFault::NameReserved, i))?;
+    refuse(
+        over_eight(at, width),
+        Refusal::Header(HeaderFault::TouchesOverEightBytes, i),
+    )?;
+    refuse(
+        off_boundary(at, repr),
+        Refusal::Header(HeaderFault::SliceOffByteBoundary, i),
+    )?;
+    refuse(
+        too_long(end),
+        Refusal::Header(HeaderFault::HeaderTooLong, i),
+    )
 }
 
 impl Header {
     // Step 3: the header of a sheet's fields, or the refusal.
-    pub fn new(s: &[u8]) -> NewHeader
-        ensures { new_header_says result ≡ new_header s.now }
+    pub fn new(s: &[u8]) -> Result<Header, Refusal>
+        ensures { says result ≡ new_header s.now }
     {
         let n = sheet::block_counts(s).fields;
         let mut keys = [false; 256];
         let mut bits = Bits(0);
-        let mut i = 0;
-        while i < n {
+        for i in 0..n {
             let b = sheet::block(s, i);
             let called = name(b);
             let k = key(called) as usize;
             let width = field_blocks::bits_in(b);
             let repr = field_blocks::repr_of(b);
             let used = used_before(s, called, i, keys[k]);
-            let v = field_fault(s, i, used, bits, width, repr);
-            if let Verdict::Refused(reason) = v {
-                return NewHeader::Refused(reason);
-            }
+            field_fault(s, i, used, bits, width, repr)?;
             keys[k] = true;
             bits = Bits(bits.0 + width.0);
-            i += 1;
         }
-        if !bits.is_whole_bytes() {
-            return NewHeader::Refused(Refusal::Header(
-                HeaderFault::HeaderNotWholeBytes,
-                sheet::block_count(s),
-            ));
-        }
-        NewHeader::Is(Header {
+        let place = sheet::block_count(s);
+        refuse(
+            !bits.is_whole_bytes(),
+            Refusal::Header(HeaderFault::HeaderNotWholeBytes, place),
+        )?;
+        Ok(Header {
             fields: n,
             len: bits.whole_bytes(),
         })

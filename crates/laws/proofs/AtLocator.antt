@@ -1,5 +1,6 @@
 -- What is owed at every locator. Where a field of a good header stands, reading and writing there is reading and writing that field, so that each sentence is one
 -- of the header's theorem; where none can stand, everything is refused and nothing changes. Assumes nothing.
+use Rattle.std.specs.Prelude.{Result, Ok, Err}
 use mathlib.Core.Path.{◌≡◌, refl, sym, ap, ◌∙◌}
 use mathlib.Core.Bool.{Bool, true, false}
 use mathlib.Core.List.{List, []}
@@ -10,20 +11,18 @@ use native.Mathlib.Omega.{arith}
 use lib.ListN.{length, take, drop}
 use Rattle.answer.specs.declared.Group.{Group}
 use Rattle.answer.specs.declared.Refusal.{Refusal}
-use Rattle.answer.specs.declared.Verdict.{Verdict}
-use Rattle.answer.specs.Paper.{gives, refused, Check, accepted, verdict_says}
+use Rattle.answer.specs.Paper.{gives, refused, Check, accepted, says}
 use Rattle.answer.proofs.Chains.{given, never-given}
 use Rattle.octets.specs.Octets.{AreBytes, byte}
 use Rattle.bits.specs.Bits.{bit, value}
 use Rattle.bits.specs.Writes.{put}
 use Rattle.bits.proofs.Writes.{commute}
-use Rattle.layout.specs.Layout.{start, width, In}
+use Rattle.layout.specs.Layout.{In}
 use Rattle.layout.specs.Access.{Value, number, bytes, of_bytes, spells, run_value, write, WriteAccepted, apply, after}
 use Rattle.layout.specs.Demand.{Demand}
 use Rattle.layout.proofs.Access.{if-passed}
 use Rattle.layout.proofs.Demand.{demand}
 use Rattle.locator.specs.declared.Locator.{Locator}
-use Rattle.locator.specs.declared.NumberAnswer.{NumberAnswer}
 use Rattle.locator.specs.Locator.{locator_header, first_bit, locator_width, is_locator, reach_at, write_check_at, read_at, apply_at, part_of}
 use Rattle.locator.specs.Stands.{Stands}
 use Rattle.locator.proofs.Reached.{Located, located-is, bytes-shape, bytes_whole, reached-is, writable-is, access-1, reach-stands, at-once-written, at-once-none, number-answer-one}
@@ -218,7 +217,7 @@ no_bytes p b e = rw e
 
 pub locator-entries-owed : (p : Locator) → LocatorEntriesOwe p
 locator-entries-owed p = record {
-  number-comes-back = λ b c v n t e. number-answer-one n (NumberAnswer.Is v) (e ∙ ap (λ (x : List ℕ). read_at p x false) t.bytes ∙ (locator-owed p).reads-number b v (sym t.answer));
+  number-comes-back = λ b c v n t e. number-answer-one n (Ok v) (e ∙ ap (λ (x : List ℕ). read_at p x false) t.bytes ∙ (locator-owed p).reads-number b v (sym t.answer));
   bytes-come-back = λ b c l part h t e. e ∙ ap (λ (x : List ℕ). part_of (read_at p x true)) t.bytes ∙ ap part_of ((locator-owed p).reads_bytes b l h (sym t.answer));
   refused-writing = λ b c v r t. t.bytes ∙ refused-write p b v (never-given (sym t.answer));
   write-at-once = λ b c v w. at-once-written w;
@@ -226,6 +225,6 @@ locator-entries-owed p = record {
   empty-part = empty-part;
 }
   where
-    empty-part : (b l : List ℕ) (r : Verdict) → l ≡ part_of (read_at p b true) → verdict_says r ≡ reach_at p (length b) true → (l ≡ []) ↔ ((reason : Refusal) × (r ≡ Verdict.Refused reason))
-    empty-part b l Verdict.Accepted e may = (λ none. absurd (omega (arith, some_bytes p b (sym may), ap length (sym e ∙ none))), λ q. cc)
-    empty-part b l (Verdict.Refused reason) e may = (λ _. (reason, refl), λ _. e ∙ no_bytes p b (sym may))
+    empty-part : (b l : List ℕ) (r : Result (Unit {0}) Refusal) → l ≡ part_of (read_at p b true) → says r ≡ reach_at p (length b) true → (l ≡ []) ↔ ((reason : Refusal) × (r ≡ Err reason))
+    empty-part b l (Ok tt) e may = (λ none. absurd (omega (arith, some_bytes p b (sym may), ap length (sym e ∙ none))), λ q. cc)
+    empty-part b l (Err reason) e may = (λ _. (reason, refl), λ _. e ∙ no_bytes p b (sym may))

@@ -1,4 +1,6 @@
 -- What every accepted sheet owes: its layout is good, so that the layout's theorem holds of it, and each sentence is carried to the sheet. Assumes nothing.
+use Rattle.answer.specs.declared.Refusal.{Refusal}
+use Rattle.std.specs.Prelude.{Result, Ok}
 use mathlib.Core.Path.{◌≡◌, sym, ap, ◌∙◌}
 use mathlib.Core.Bool.{Bool, true, false, not, ◌&&◌}
 use mathlib.Core.List.{List}
@@ -9,9 +11,8 @@ use native.Mathlib.Omega.{arith}
 use lib.Dec.{eqb}
 use lib.ListN.{length}
 use Rattle.answer.specs.declared.Group.{Group}
-use Rattle.answer.specs.declared.Verdict.{Verdict}
-use Rattle.answer.specs.Paper.{gives, accepted, verdict_says, refuse}
-use Rattle.answer.proofs.OneToOne.{verdict-one}
+use Rattle.answer.specs.Paper.{gives, accepted, says, refuse}
+use Rattle.answer.proofs.OneToOne.{says-one}
 use Rattle.octets.specs.Octets.{AreBytes}
 use Rattle.bits.specs.Bits.{bit}
 use Rattle.sheet.specs.Blocks.{field_count}
@@ -73,12 +74,12 @@ module _ (s : List ℕ) (ok : Accepted s) where
     rest = λ k l. f.rest k (rw end_is l);
   }
 
-  module _ {b c : List ℕ} {r : Verdict} (h : header_bytes s ≤ length b) (t : TemplateBuilt s b c r) where
-    built : verdict_says r ≡ accepted
+  module _ {b c : List ℕ} {r : Result (Unit {0}) Refusal} (h : header_bytes s ≤ length b) (t : TemplateBuilt s b c r) where
+    built : says r ≡ accepted
     built = t.answer ∙ ((exactly s).template-is (length b)).1 (ok, h)
 
-    template-reads : (r ≡ Verdict.Accepted) × Started s b c
-    template-reads = (verdict-one r Verdict.Accepted built, started-is (t.filled built))
+    template-reads : (r ≡ Ok tt) × Started s b c
+    template-reads = (says-one r (Ok tt) built, started-is (t.filled built))
 
     template-only : (d : List ℕ) → Started s b d → d ≡ c
     template-only d st = filled-one (filled_is st) (t.filled built)

@@ -1,5 +1,6 @@
 -- What is owed to a caller of the entries, by their contracts alone. What was written, and what the template left, is read by the laws of `Demand`: the bits spell
 -- it, and as many bytes that spell the same are the same. What is done at a locator is done by sheet and index (`access`). Assumes nothing.
+use Rattle.std.specs.Prelude.{Result, Ok, Err}
 use mathlib.Core.Path.{◌≡◌, refl, sym, ap, ◌∙◌}
 use mathlib.Core.Bool.{Bool, true, false, cond, not}
 use mathlib.Core.List.{List, []}
@@ -13,11 +14,10 @@ use lib.Seq.{slice, length-slice}
 use borrow.Author.Tests.{ne_eqb}
 use Rattle.answer.specs.declared.Group.{Group}
 use Rattle.answer.specs.declared.Refusal.{Refusal}
-use Rattle.answer.specs.declared.Verdict.{Verdict}
-use Rattle.answer.specs.Paper.{gives, accepted, refusal_says, verdict_says, refuse}
+use Rattle.answer.specs.Paper.{gives, accepted, refusal_says, says, refuse}
 use Rattle.answer.proofs.Chains.{stand, both_is, refuse-is, never-given, given, each-passed}
 use Rattle.answer.proofs.Tests.{not_is, eqb_is}
-use Rattle.answer.proofs.OneToOne.{verdict-one}
+use Rattle.answer.proofs.OneToOne.{says-one}
 use Rattle.octets.specs.Octets.{AreBytes}
 use Rattle.octets.proofs.Octets.{bytes_take, bytes_drop, bytes-slice, zeros}
 use Rattle.bits.specs.Bits.{bit, spelled}
@@ -44,11 +44,9 @@ use Rattle.template.specs.Template.{TemplateBuilt}
 use Rattle.template.proofs.Filling.{none-stated}
 use Rattle.template.proofs.Steps.{fillable}
 use Rattle.locator.specs.declared.Locator.{Locator}
-use Rattle.locator.specs.declared.NumberAnswer.{NumberAnswer}
 use Rattle.locator.specs.Locator.{number_answer_says, part_of}
 use Rattle.locator.proofs.Reached.{number-answer-one}
-use Rattle.access.specs.declared.LocatorAnswer.{LocatorAnswer}
-use Rattle.access.specs.Access.{sheet_reach, sheet_read, SheetWritten, locator_of, locator_check, locator_in, locator_answer_says}
+use Rattle.access.specs.Access.{sheet_reach, sheet_read, SheetWritten, locator_of, locator_check, locator_in}
 use Rattle.access.proofs.BySheet as by-sheet
 use Rattle.laws.specs.Fields.{width_at, is_bytes_at, default_at, SheetReachable}
 use Rattle.laws.specs.Demand.{SheetDemand, Started}
@@ -91,7 +89,7 @@ module _ (s : List ℕ) where
 
   -- ---- after the template
 
-  module _ (b c : List ℕ) (i : ℕ) (t : TemplateBuilt s b c Verdict.Accepted) (there : i < field_count s) where
+  module _ (b c : List ℕ) (i : ℕ) (t : TemplateBuilt s b c (Ok tt)) (there : i < field_count s) where
     room : Accepted s × (header_bytes s ≤ length b)
     room = ((exactly s).template-is (length b)).0 (sym t.answer)
 
@@ -99,7 +97,7 @@ module _ (s : List ℕ) where
     owed = demand s room.0
 
     started : Started s b c
-    started = (owed.template-reads b c Verdict.Accepted room.1 t).1
+    started = (owed.template-reads b c (Ok tt) room.1 t).1
 
     reached : (as_bytes : Bool) → is_bytes_at s i ≡ as_bytes → SheetReachable s (length c) as_bytes i
     reached as_bytes kind = record { there = there; long = rw started.same_length room.1; kind = sym kind }
@@ -107,9 +105,9 @@ module _ (s : List ℕ) where
     sound : Sound (field_at s i)
     sound = field-sound s (five-steps s room.0).fields i there
 
-    default-read : is_bytes_at s i ≡ false → (n : NumberAnswer) → number_answer_says n ≡ sheet_read s c false i → n ≡ NumberAnswer.Is (default_at s i)
-    default-read kind (NumberAnswer.Is x) e = ap NumberAnswer.Is (owed.read-holds c false i (number x) (sym e) ∙ started.defaults i there)
-    default-read kind (NumberAnswer.Refused r) e =
+    default-read : is_bytes_at s i ≡ false → (n : Result ℕ Refusal) → number_answer_says n ≡ sheet_read s c false i → n ≡ Ok (default_at s i)
+    default-read kind (Ok x) e = ap Ok (owed.read-holds c false i (number x) (sym e) ∙ started.defaults i there)
+    default-read kind (Err r) e =
         let is = e ∙ ((owed.accepted-reads c false i).1 (reached false kind)).1 in
         cc
 
@@ -186,49 +184,49 @@ module _ (s : List ℕ) where
   -- ---- reads and writes
 
   -- an accepted write is one of an accepted sheet
-  of-accepted : {b c : List ℕ} {w : Write} → SheetWritten s b c w Verdict.Accepted → Accepted s
+  of-accepted : {b c : List ℕ} {w : Write} → SheetWritten s b c w (Ok tt) → Accepted s
   of-accepted {b} {w = w} t = (((exactly s).writes_are (length b) w).0 (sym t.answer)).0
 
-  number-comes-back : (b c : List ℕ) (i v : ℕ) (n : NumberAnswer) → SheetWritten s b c (write i (number v)) Verdict.Accepted
-      → number_answer_says n ≡ sheet_read s c false i → n ≡ NumberAnswer.Is v
+  number-comes-back : (b c : List ℕ) (i v : ℕ) (n : Result ℕ Refusal) → SheetWritten s b c (write i (number v)) (Ok tt)
+      → number_answer_says n ≡ sheet_read s c false i → n ≡ Ok v
   number-comes-back b c i v n t e =
-      number-answer-one n (NumberAnswer.Is v) (e ∙ ap (λ (x : List ℕ). sheet_read s x false i) t.bytes ∙ (demand s (of-accepted t)).reads-number b i v (sym t.answer))
+      number-answer-one n (Ok v) (e ∙ ap (λ (x : List ℕ). sheet_read s x false i) t.bytes ∙ (demand s (of-accepted t)).reads-number b i v (sym t.answer))
 
-  bytes-come-back : (b c : List ℕ) (i : ℕ) (l part : List ℕ) → AreBytes l → SheetWritten s b c (write i (bytes l)) Verdict.Accepted
+  bytes-come-back : (b c : List ℕ) (i : ℕ) (l part : List ℕ) → AreBytes l → SheetWritten s b c (write i (bytes l)) (Ok tt)
       → part ≡ part_of (sheet_read s c true i) → part ≡ l
-  bytes-come-back b c i l part h t e =
+  bytes-come-back b c i l read h t e =
       e ∙ ap (λ (x : List ℕ). part_of (sheet_read s x true i)) t.bytes ∙ ap part_of ((demand s (of-accepted t)).reads_bytes b i l h (sym t.answer))
 
   -- where it can be read the part has 2 bytes at least, and else it is empty
-  empty-part : (b : List ℕ) (i : ℕ) (l : List ℕ) (r : Verdict) → l ≡ part_of (sheet_read s b true i) → verdict_says r ≡ sheet_reach s (length b) true i
-      → (l ≡ []) ↔ ((reason : Refusal) × (r ≡ Verdict.Refused reason))
-  empty-part b i l Verdict.Accepted e may =
+  empty-part : (b : List ℕ) (i : ℕ) (l : List ℕ) (r : Result (Unit {0}) Refusal) → l ≡ part_of (sheet_read s b true i) → says r ≡ sheet_reach s (length b) true i
+      → (l ≡ []) ↔ ((reason : Refusal) × (r ≡ Err reason))
+  empty-part b i l (Ok tt) e may =
       let is = ((exactly s).reaches-are (length b) true i).0 (sym may) in
       let all = e ∙ ap part_of (part-read is.0 b i is.1) in
       (λ none. absurd (omega (arith, part-some is.0 b i is.1, ap length (sym all ∙ none))), λ p. cc)
-  empty-part b i l (Verdict.Refused reason) e may =
+  empty-part b i l (Err reason) e may =
       (λ _. (reason, refl), λ _. e ∙ ap part_of (by-sheet.read-after s i b true ∙ stand _ (sym may)))
 
   -- ---- locators
 
-  located : (i : ℕ) (q : LocatorAnswer) → locator_answer_says q ≡ locator_in s i → ((p : Locator) × (q ≡ LocatorAnswer.Is p)) ↔ (Accepted s × (i < field_count s))
-  located i (LocatorAnswer.Is p) e = (λ _. (by-sheet.locator-is s i).0 (given (locator_check s i) (sym e)).0, λ _. (p, refl))
-  located i (LocatorAnswer.Refused r) e = (
-    λ p. absurd (never-given (sym e) (sym e ∙ ap locator_answer_says p.1)),
+  located : (i : ℕ) (q : Result Locator Refusal) → says q ≡ locator_in s i → ((p : Locator) × (q ≡ Ok p)) ↔ (Accepted s × (i < field_count s))
+  located i (Ok p) e = (λ _. (by-sheet.locator-is s i).0 (given (locator_check s i) (sym e)).0, λ _. (p, refl))
+  located i (Err r) e = (
+    λ p. absurd (never-given (sym e) (sym e ∙ ap says p.1)),
     λ h. absurd (never-given {v = locator_of s i} (sym e) (rw ((by-sheet.locator-is s i).1 h))),
   )
 
-  module _ (i : ℕ) (reason : Refusal) (e : locator_answer_says (LocatorAnswer.Refused reason) ≡ locator_in s i) where
+  module _ (i : ℕ) (reason : Refusal) (e : says (Err reason) ≡ locator_in s i) where
     none : locator_check s i ≡ refusal_says reason
     none = by-sheet.locator-refused s i e {r = reason} refl
 
-    no_number : (b : List ℕ) (n : NumberAnswer) → number_answer_says n ≡ sheet_read s b false i → n ≡ NumberAnswer.Refused reason
-    no_number b n is = number-answer-one n (NumberAnswer.Refused reason) (is ∙ by-sheet.read-refused s i none b false)
+    no_number : (b : List ℕ) (n : Result ℕ Refusal) → number_answer_says n ≡ sheet_read s b false i → n ≡ Err reason
+    no_number b n is = number-answer-one n (Err reason) (is ∙ by-sheet.read-refused s i none b false)
 
-    no_bytes_lem : (b : List ℕ) (r : Verdict) → verdict_says r ≡ sheet_reach s (length b) true i → r ≡ Verdict.Refused reason
-    no_bytes_lem b r is = verdict-one r (Verdict.Refused reason) (is ∙ by-sheet.reach-refused s i none (length b) true)
+    no_bytes_lem : (b : List ℕ) (r : Result (Unit {0}) Refusal) → says r ≡ sheet_reach s (length b) true i → r ≡ Err reason
+    no_bytes_lem b r is = says-one r (Err reason) (is ∙ by-sheet.reach-refused s i none (length b) true)
 
-    no_write : (b c : List ℕ) (v : Value) (r : Verdict) → SheetWritten s b c (write i v) r → r ≡ Verdict.Refused reason
+    no_write : (b c : List ℕ) (v : Value) (r : Result (Unit {0}) Refusal) → SheetWritten s b c (write i v) r → r ≡ Err reason
     no_write b c v r t = (by-sheet.written_one t (by-sheet.not_written s b i v reason none)).0
 
   -- ---- sentence by sentence, as in `specs/Entries.antt`

@@ -1,16 +1,14 @@
 -- What is owed at any locator, made up or not, sentence by sentence: which reads and writes are accepted there, that each write reads back, and that it stays
 -- inside its run. It speaks of RFC 791's bits (`bit`) and of what the contracts of `locator` promise: `reach_at`, `read_at`, `write_check_at` and `apply_at`.
 -- `proofs/AtLocator.antt` shows it of every locator. Assumes nothing.
-use Rattle.std.specs.Prelude.{◌≡◌, Bool, true, false, List, [], ◌↔◌, ℕ, suc, ◌+◌, ◌-◌, ◌*◌, ◌/◌, ◌%◌, ◌^◌, ◌≤◌, ◌<◌, length}
+use Rattle.std.specs.Prelude.{◌≡◌, Bool, true, false, List, [], ◌↔◌, ℕ, suc, ◌+◌, ◌-◌, ◌*◌, ◌/◌, ◌%◌, ◌^◌, ◌≤◌, ◌<◌, length, Result, Ok, Err}
 use Rattle.answer.specs.declared.Group.{Group}
 use Rattle.answer.specs.declared.Refusal.{Refusal}
-use Rattle.answer.specs.declared.Verdict.{Verdict}
-use Rattle.answer.specs.Paper.{gives, refused, accepted, verdict_says}
+use Rattle.answer.specs.Paper.{gives, refused, accepted, says}
 use Rattle.octets.specs.Octets.{AreBytes, byte}
 use Rattle.bits.specs.Bits.{bit, value}
 use Rattle.layout.specs.Access.{Value, number, bytes, of_bytes, spells, OfSize}
 use Rattle.locator.specs.declared.Locator.{Locator}
-use Rattle.locator.specs.declared.NumberAnswer.{NumberAnswer}
 use Rattle.locator.specs.Locator.{locator_header, first_bit, locator_width, held_is_bytes, held_default, held_fixed, reach_at, write_check_at, read_at, apply_at, WrittenAt, WrittenAtOnce, number_answer_says, part_of}
 use Rattle.locator.specs.Stands.{Stands}
 
@@ -74,13 +72,13 @@ pub record LocatorDemand (p : Locator) : Type 0 where
 -- nothing else
 pub record LocatorEntriesOwe (p : Locator) : Type 0 where
   -- what an accepted write wrote is read again
-  pub number-comes-back : (b c : List ℕ) (v : ℕ) (n : NumberAnswer) → WrittenAt p b c (number v) Verdict.Accepted → number_answer_says n ≡ read_at p c false → n ≡ NumberAnswer.Is v
-  pub bytes-come-back : (b c l part : List ℕ) → AreBytes l → WrittenAt p b c (bytes l) Verdict.Accepted → part ≡ part_of (read_at p c true) → part ≡ l
+  pub number-comes-back : (b c : List ℕ) (v : ℕ) (n : Result ℕ Refusal) → WrittenAt p b c (number v) (Ok tt) → number_answer_says n ≡ read_at p c false → n ≡ Ok v
+  pub bytes-come-back : (b c l part : List ℕ) → AreBytes l → WrittenAt p b c (bytes l) (Ok tt) → part ≡ part_of (read_at p c true) → part ≡ l
   -- a refused one leaves the buffer as it was
-  pub refused-writing : (b c : List ℕ) (v : Value) (r : Refusal) → WrittenAt p b c v (Verdict.Refused r) → c ≡ b
+  pub refused-writing : (b c : List ℕ) (v : Value) (r : Refusal) → WrittenAt p b c v (Err r) → c ≡ b
   -- a write at once is a write that is accepted; where it was none, the buffer is as it was
-  pub write-at-once : (b c : List ℕ) (v : ℕ) → WrittenAtOnce p b c v true → WrittenAt p b c (number v) Verdict.Accepted
+  pub write-at-once : (b c : List ℕ) (v : ℕ) → WrittenAtOnce p b c v true → WrittenAt p b c (number v) (Ok tt)
   pub not-at-once : (b c : List ℕ) (v : ℕ) → WrittenAtOnce p b c v false → c ≡ b
   -- a part is empty exactly where the function beside it refuses
-  pub empty-part : (b part : List ℕ) (r : Verdict) → part ≡ part_of (read_at p b true) → verdict_says r ≡ reach_at p (length b) true
-      → (part ≡ []) ↔ ((reason : Refusal) × (r ≡ Verdict.Refused reason))
+  pub empty-part : (b part : List ℕ) (r : Result (Unit {0}) Refusal) → part ≡ part_of (read_at p b true) → says r ≡ reach_at p (length b) true
+      → (part ≡ []) ↔ ((reason : Refusal) × (r ≡ Err reason))

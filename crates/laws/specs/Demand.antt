@@ -1,9 +1,9 @@
 -- What an accepted sheet owes, demand 3 of docs/RULES.md, sentence by sentence: every header bit in one field, the template, the writes that are accepted and what each does. It
 -- speaks of RFC 791's bits (`bit`), of the sheet, and of what the contracts of `template` and `access` promise: `TemplateBuilt`, `sheet_read`,
 -- `sheet_write_check` and `sheet_apply`. `proofs/Demand.antt` shows it of every accepted sheet. Assumes nothing.
-use Rattle.std.specs.Prelude.{◌≡◌, Bool, true, false, not, ◌&&◌, List, ◌↔◌, ℕ, suc, ◌+◌, ◌-◌, ◌*◌, ◌/◌, ◌%◌, ◌^◌, ◌≤◌, ◌<◌, eqb, length}
+use Rattle.answer.specs.declared.Refusal.{Refusal}
+use Rattle.std.specs.Prelude.{◌≡◌, Bool, true, false, not, ◌&&◌, List, ◌↔◌, ℕ, suc, ◌+◌, ◌-◌, ◌*◌, ◌/◌, ◌%◌, ◌^◌, ◌≤◌, ◌<◌, eqb, length, Result, Ok}
 use Rattle.answer.specs.declared.Group.{Group}
-use Rattle.answer.specs.declared.Verdict.{Verdict}
 use Rattle.answer.specs.Paper.{gives, accepted, refuse}
 use Rattle.octets.specs.Octets.{AreBytes, byte}
 use Rattle.bits.specs.Bits.{bit}
@@ -34,8 +34,8 @@ pub record SheetDemand (s : List ℕ) : Type 0 where
   pub one_field : (k : ℕ) → k < 8 * header_bytes s → (i : ℕ) × OfField s i k × ((j : ℕ) → OfField s j k → j ≡ i)
   pub in-header : (i k : ℕ) → OfField s i k → k < 8 * header_bytes s
   -- the template reads as the defaults: in any buffer long enough it is accepted, and what is left then is the only buffer that reads so
-  pub template-reads : (b b' : List ℕ) (r : Verdict) → header_bytes s ≤ length b → TemplateBuilt s b b' r → (r ≡ Verdict.Accepted) × Started s b b'
-  pub template-only : (b b' c : List ℕ) (r : Verdict) → header_bytes s ≤ length b → TemplateBuilt s b b' r → Started s b c → c ≡ b'
+  pub template-reads : (b b' : List ℕ) (r : Result (Unit {0}) Refusal) → header_bytes s ≤ length b → TemplateBuilt s b b' r → (r ≡ Ok tt) × Started s b b'
+  pub template-only : (b b' c : List ℕ) (r : Result (Unit {0}) Refusal) → header_bytes s ≤ length b → TemplateBuilt s b b' r → Started s b c → c ≡ b'
   -- exactly the allowed writes are accepted, and exactly the allowed reads
   pub accepted-writes : (b : List ℕ) (w : Write) → SheetWriteAccepted s b w ↔ SheetAllowed s (length b) w
   pub accepted-reads : (b : List ℕ) (as_bytes : Bool) (i : ℕ) → ((v : Value) × (sheet_read s b as_bytes i ≡ gives v)) ↔ SheetReachable s (length b) as_bytes i

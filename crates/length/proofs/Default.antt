@@ -3,7 +3,7 @@
 use mathlib.Core.Path.{◌≡◌, refl}
 use mathlib.Core.Bool.{Bool, true, false, cond, and-false}
 use mathlib.Core.List.{List}
-use mathlib.Core.Option.{Option, none, some}
+use Rattle.std.specs.Prelude.{Option, None, Some}
 use Prim.Native.Nat.{ℕ, zero, suc, ◌-◌, ◌^◌}
 use native.Mathlib.Omega.{arith}
 use lib.Dec.{eqb}
@@ -31,7 +31,7 @@ use Rattle.length.specs.Step.{largest, number_default, of_default, arg_not_the_r
 -- ---- the default's length
 
 -- where there is a largest length there is the default's
-default-length : (e : UsableAlgExpr) (f : Field) → Sound f → arg_not_the_repr f.repr f.arg ≡ false → (most : ℕ) → largest e f ≡ some most → is_some (of_default e f) ≡ true
+default-length : (e : UsableAlgExpr) (f : Field) → Sound f → arg_not_the_repr f.repr f.arg ≡ false → (most : ℕ) → largest e f ≡ Some most → is_some (of_default e f) ≡ true
 default-length e f sound good most q = by_kind f.default refl
   where
     by_kind : (d : DefaultVal) → f.default ≡ d → is_some (number_default d then forward e) ≡ true
@@ -65,16 +65,16 @@ ruleset chains = (passes, stops, cond-not, then-not, first-not)
 -- ---- step 4
 
 -- of the lengths: where there is a largest one there is the default's
-length-not : (slot : ℕ) (most usual : Option ℕ) (header at : ℕ) → ((n : ℕ) → most ≡ some n → is_some usual ≡ true) → Not13 (length_fault slot most usual header at)
+length-not : (slot : ℕ) (most usual : Option ℕ) (header at : ℕ) → ((n : ℕ) → most ≡ Some n → is_some usual ≡ true) → Not13 (length_fault slot most usual header at)
 unfolding length_fault
-length-not slot (some n) usual header at has = simp (has n refl, and-false) (search chains depth 12)
-length-not slot none usual header at has = stops refl
+length-not slot (Some n) usual header at has = simp (has n refl, and-false) (search chains depth 12)
+length-not slot None usual header at has = stops refl
 
 module _ (s : List ℕ) (ok : fields_check s ≡ accepted) (header slot : ℕ) where
   expr-not : (at : ℕ) (e : UsableAlgExpr) (found : Option ℕ) → field_named s (name_at s at) ≡ found → Not13 (expr_fault header slot at e (field_here s found))
   unfolding length_field_fault
-  expr-not at e none q = stops refl
-  expr-not at e (some k) q =
+  expr-not at e None q = stops refl
+  expr-not at e (Some k) q =
       let f = field_at s k in
       let sound = field-sound s ok k (where_found _ (field_count s) k q).0 in
       then-not (length_field_fault slot f at) _ (search chains depth 12)

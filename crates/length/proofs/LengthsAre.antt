@@ -4,7 +4,8 @@ use mathlib.Core.Path.{◌≡◌, refl, sym, ap}
 use mathlib.Core.Bool.{true, false}
 use mathlib.Core.List.{List}
 use mathlib.Core.Logic.{◌↔◌}
-use mathlib.Core.Option.{Option, none, some, none-ne-some}
+use Rattle.std.specs.Prelude.{Option, None, Some}
+use Rattle.std.proofs.lemmas.Option.{none-some}
 use Prim.Native.Nat.{ℕ, ◌-◌, ◌^◌, ◌≤◌, ◌<◌}
 use native.Mathlib.Omega.{arith}
 use borrow.Author.Tests.{eqb-false}
@@ -41,27 +42,27 @@ arg_is repr (Arg.BuiltinTypes t) = simp (neither-is, not_is, eqb_is, slice_is)
 arg_is repr Arg.Code = (λ e. clash e, λ p. cc)
 
 -- length 1: there is one
-some_is : (o : Option ℕ) → (is_some o ≡ true) ↔ ((n : ℕ) × (o ≡ some n))
-some_is (some n) = (λ _. (n, refl), λ _. refl)
-some_is none = (λ e. clash (sym e), λ p. cc)
+some_is : (o : Option ℕ) → (is_some o ≡ true) ↔ ((n : ℕ) × (o ≡ Some n))
+some_is (Some n) = (λ _. (n, refl), λ _. refl)
+some_is None = (λ e. clash (sym e), λ p. cc)
 
 -- length 12: there is an expression
-form-is : (o : Option UsableAlgExpr) → (no_form o ≡ false) ↔ ((e : UsableAlgExpr) × (o ≡ some e))
-form-is (some e) = (λ _. (e, refl), λ _. refl)
-form-is none = (λ e. clash e, λ p. cc)
+form-is : (o : Option UsableAlgExpr) → (no_form o ≡ false) ↔ ((e : UsableAlgExpr) × (o ≡ Some e))
+form-is (Some e) = (λ _. (e, refl), λ _. refl)
+form-is None = (λ e. clash e, λ p. cc)
 
 -- length 8 and 9: a length that can be worked out, and is not over; 13 and 10: one that is not under
-over-is : (o : Option ℕ) (most : ℕ) → ((is_some o ≡ true) × (is_over o most ≡ false)) ↔ ((n : ℕ) × (o ≡ some n) × (n ≤ most))
+over-is : (o : Option ℕ) (most : ℕ) → ((is_some o ≡ true) × (is_over o most ≡ false)) ↔ ((n : ℕ) × (o ≡ Some n) × (n ≤ most))
 over-is o most =
     there-is (λ l. (is_some l ≡ true) × (is_over l most ≡ false)) (λ n. n ≤ most) (λ n. simp ltb-is-not (λ p. p.1, λ h. (refl, h))) (λ p. clash (sym p.0)) o
 
-under-is : (o : Option ℕ) (least : ℕ) → ((is_some o ≡ true) × (is_under o least ≡ false)) ↔ ((n : ℕ) × (o ≡ some n) × (least ≤ n))
+under-is : (o : Option ℕ) (least : ℕ) → ((is_some o ≡ true) × (is_under o least ≡ false)) ↔ ((n : ℕ) × (o ≡ Some n) × (least ≤ n))
 under-is o least =
     there-is (λ l. (is_some l ≡ true) × (is_under l least ≡ false)) (λ n. least ≤ n) (λ n. simp ltb-is-not (λ p. p.1, λ h. (refl, h))) (λ p. clash (sym p.0)) o
 
 -- the largest value is 2 ^ width - 1, of a width of 1 to 64
-pub largest-is : (e : UsableAlgExpr) (f : Field) (most : ℕ) → (largest e f ≡ some most)
-    ↔ ((1 ≤ width_of f) × (width_of f ≤ 64) × (forward e (2 ^ width_of f - 1) ≡ some most))
+pub largest-is : (e : UsableAlgExpr) (f : Field) (most : ℕ) → (largest e f ≡ Some most)
+    ↔ ((1 ≤ width_of f) × (width_of f ≤ 64) × (forward e (2 ^ width_of f - 1) ≡ Some most))
 unfolding max_value
 largest-is e f most = (
   λ q.
@@ -73,13 +74,13 @@ largest-is e f most = (
 )
 
 -- and the default is a number
-default-is : (e : UsableAlgExpr) (d : DefaultVal) (usual : ℕ) → ((number_default d then forward e) ≡ some usual) ↔ ((x : ℕ) × (d ≡ DefaultVal.Num x) × (forward e x ≡ some usual))
+default-is : (e : UsableAlgExpr) (d : DefaultVal) (usual : ℕ) → ((number_default d then forward e) ≡ Some usual) ↔ ((x : ℕ) × (d ≡ DefaultVal.Num x) × (forward e x ≡ Some usual))
 default-is e (DefaultVal.Num x) usual = (λ q. (x, refl, q), λ p. let same : x ≡ p.0 = cc in rw same p.2)
-default-is e (DefaultVal.Bool b) usual = (λ q. absurd (none-ne-some usual q), λ p. cc)
-default-is e (DefaultVal.Bytes s) usual = (λ q. absurd (none-ne-some usual q), λ p. cc)
+default-is e (DefaultVal.Bool b) usual = (λ q. absurd (none-some usual q), λ p. cc)
+default-is e (DefaultVal.Bytes s) usual = (λ q. absurd (none-some usual q), λ p. cc)
 
 enough-is : (e : UsableAlgExpr) (f : Field) (least : ℕ) → ((is_some (of_default e f) ≡ true) × (is_under (of_default e f) least ≡ false))
-    ↔ ((x usual : ℕ) × (f.default ≡ DefaultVal.Num x) × (forward e x ≡ some usual) × (least ≤ usual))
+    ↔ ((x usual : ℕ) × (f.default ≡ DefaultVal.Num x) × (forward e x ≡ Some usual) × (least ≤ usual))
 enough-is e f least =
     let under = under-is (of_default e f) least in (
       λ p. let u = under.0 p in let d = (default-is e f.default u.0).0 u.1 in (d.0, u.0, d.1, d.2, u.2),
@@ -90,7 +91,7 @@ enough-is e f least =
 
 module _ (header slot : ℕ) where
   -- a field passes its tests exactly where it serves the expression
-  serves-is : (at : ℕ) (e : UsableAlgExpr) (f : Field) → (expr_fault header slot at e (some f) ≡ accepted) ↔ Serves header slot e f
+  serves-is : (at : ℕ) (e : UsableAlgExpr) (f : Field) → (expr_fault header slot at e (Some f) ≡ accepted) ↔ Serves header slot e f
   unfolding length_field_fault length_fault
   serves-is at e f =
       let top = over-is (largest e f) max_bytes in
@@ -121,12 +122,12 @@ module _ (header slot : ℕ) where
   module _ (s : List ℕ) where
     -- a block passes exactly where the expression in it, if there is one, names a field that serves it
     block-is : (at : ℕ) (x : Option UsableAlgExpr) → (held_fault s header slot at (held x) ≡ accepted)
-        ↔ ((e : UsableAlgExpr) → x ≡ some e → (f : Field) × (field_of_block s at ≡ some f) × Serves header slot e f)
+        ↔ ((e : UsableAlgExpr) → x ≡ Some e → (f : Field) × (field_of_block s at ≡ Some f) × Serves header slot e f)
     block-is at = any-is _ _ (λ e. there-is (λ o. expr_fault header slot at e o ≡ accepted) _ (serves-is at e) (never-given refl) (field_of_block s at)) refl
 
     -- and a slot exactly where its block does, if there is one
-    slot_is : (slot_check s header slot ≡ accepted) ↔ ((at : ℕ) → block_of_slot s slot ≡ some at → (e : UsableAlgExpr) → expr_in (block_at s at) ≡ some e
-        → (f : Field) × (field_of_block s at ≡ some f) × Serves header slot e f)
+    slot_is : (slot_check s header slot ≡ accepted) ↔ ((at : ℕ) → block_of_slot s slot ≡ Some at → (e : UsableAlgExpr) → expr_in (block_at s at) ≡ Some e
+        → (f : Field) × (field_of_block s at ≡ Some f) × Serves header slot e f)
     slot_is = any-is (λ o. held_fault s header slot (or_zero o) (held_by s o) ≡ accepted) _ (λ at. block-is at (expr_in (block_at s at))) refl (block_of_slot s slot)
 
 -- ---- the step

@@ -1,6 +1,5 @@
 -- Step 4: whether the lengths of a sheet can be worked out of its fields. Assumes nothing.
-use Rattle.std.specs.Prelude.{Bool, true, false, not, ◌&&◌, ◌||◌, List, ℕ, ltb, eqb}
-use Rattle.std.proofs.Math.Option.{Option, none, some}
+use Rattle.std.specs.Prelude.{Bool, true, false, not, ◌&&◌, ◌||◌, List, ℕ, ltb, eqb, Option, None, Some}
 use Rattle.answer.specs.declared.Group.{Group}
 use Rattle.answer.specs.Paper.{Check, accepted, refused, refuse, ◌and_then◌, first}
 use Rattle.answer.specs.Walk.{is_some, or_zero}
@@ -16,7 +15,6 @@ use Rattle.expr.specs.declared.UsableAlgExpr.{UsableAlgExpr}
 use Rattle.expr.specs.Forms.{◌then◌, forward}
 use Rattle.slots.specs.declared.LengthField.{LengthField}
 use Rattle.slots.specs.Slots.{expr_in, block_of_slot, length_field, is_tree, no_form}
-use Rattle.length.specs.declared.Used.{Used}
 use Rattle.length.specs.Named.{field_of_block}
 
 -- ---- the lengths of a field: of its largest value, and of its default
@@ -25,9 +23,9 @@ abbrev pub largest : UsableAlgExpr → Field → Option ℕ
 largest e f = max_value (width_of f) then forward e
 
 abbrev pub number_default : DefaultVal → Option ℕ
-number_default (DefaultVal.Num n) = some n
-number_default (DefaultVal.Bool b) = none
-number_default (DefaultVal.Bytes s) = none
+number_default (DefaultVal.Num n) = Some n
+number_default (DefaultVal.Bool b) = None
+number_default (DefaultVal.Bytes s) = None
 
 abbrev pub of_default : UsableAlgExpr → Field → Option ℕ
 of_default e f = number_default f.default then forward e
@@ -41,12 +39,12 @@ arg_not_the_repr repr Arg.Code = true
 
 -- a length that is over or under a number of bytes; one that cannot be worked out is neither
 abbrev pub is_over : Option ℕ → ℕ → Bool
-is_over (some n) most = ltb most n
-is_over none most = false
+is_over (Some n) most = ltb most n
+is_over None most = false
 
 abbrev pub is_under : Option ℕ → ℕ → Bool
-is_under (some n) least = ltb n least
-is_under none least = false
+is_under (Some n) least = ltb n least
+is_under None least = false
 
 -- length 4, over 64 bits; 5, gen true; 6; 7, a fixed default, for slots 1 and 2
 unfoldable pub length_field_fault : ℕ → Field → ℕ → Check
@@ -69,8 +67,8 @@ length_fault slot most usual header at =
 
 -- of an expression in block `at`: length 3, no such field; then the tests of the field
 abbrev pub expr_fault : ℕ → ℕ → ℕ → UsableAlgExpr → Option Field → Check
-expr_fault header slot at e none = refused Group.Length 3 at
-expr_fault header slot at e (some f) = length_field_fault slot f at and_then length_fault slot (largest e f) (of_default e f) header at
+expr_fault header slot at e None = refused Group.Length 3 at
+expr_fault header slot at e (Some f) = length_field_fault slot f at and_then length_fault slot (largest e f) (of_default e f) header at
 
 -- a slot that holds no expression leaves the check at once
 abbrev pub held_fault : List ℕ → ℕ → ℕ → ℕ → LengthField → Check
@@ -103,28 +101,23 @@ length_check s header =
 -- ---- the lengths of a slot, where it holds an expression whose field there is
 
 abbrev pub with_field : UsableAlgExpr → Option Field → Option (UsableAlgExpr × Field)
-with_field e (some f) = some (e, f)
-with_field e none = none
+with_field e (Some f) = Some (e, f)
+with_field e None = None
 
 abbrev pub used_by : List ℕ → ℕ → LengthField → Option (UsableAlgExpr × Field)
-used_by s at LengthField.Absent = none
-used_by s at LengthField.Undefined = none
+used_by s at LengthField.Absent = None
+used_by s at LengthField.Undefined = None
 used_by s at (LengthField.Expr e) = with_field e (field_of_block s at)
 
 abbrev pub used : List ℕ → ℕ → Option (UsableAlgExpr × Field)
 used s slot = used_by s (or_zero (block_of_slot s slot)) (length_field s slot)
 
 abbrev pub worked : (UsableAlgExpr → Field → Option ℕ) → Option (UsableAlgExpr × Field) → Option ℕ
-worked length (some u) = length u.0 u.1
-worked length none = none
+worked length (Some u) = length u.0 u.1
+worked length None = None
 
 abbrev pub largest_length : List ℕ → ℕ → Option ℕ
 largest_length s slot = worked largest (used s slot)
 
 abbrev pub default_length : List ℕ → ℕ → Option ℕ
 default_length s slot = worked of_default (used s slot)
-
--- what the program's answer says
-abbrev pub used_says : Used → Option (UsableAlgExpr × Field)
-used_says (Used.By e f) = some (e, f)
-used_says Used.None = none

@@ -2,7 +2,7 @@
 use mathlib.Core.Path.{◌≡◌, refl}
 use mathlib.Core.Bool.{Bool, true, false, cond}
 use mathlib.Core.List.{List, [], ◌∷◌}
-use mathlib.Core.Option.{Option, none, some}
+use Rattle.std.specs.Prelude.{Option, None, Some}
 use Prim.Native.Nat.{ℕ, ◌+◌, ◌*◌, ◌/◌, ◌%◌, ◌^◌, ◌<◌, ◌≤◌}
 use native.Mathlib.Omega.{arith}
 use lib.Dec.{eqb}
@@ -93,7 +93,7 @@ template-length bytes = simp line-length (omega (arith, hex-word-length bytes))
 
 -- of a slot that holds an expression, whose largest length is known
 pub slot-line-length : (slot : ℕ) (name : List ℕ) (largest : Option ℕ) (held : LengthField) → length name ≤ 64
-    → ((e : UsableAlgExpr) → held ≡ LengthField.Expr e → (n : ℕ) × (largest ≡ some n) × (n < 2 ^ 64)) → length (length_line slot name largest held) ≤ 105
+    → ((e : UsableAlgExpr) → held ≡ LengthField.Expr e → (n : ℕ) × (largest ≡ Some n) × (n < 2 ^ 64)) → length (length_line slot name largest held) ≤ 105
 unfolding undefined_line worked_line
 slot-line-length slot name largest LengthField.Absent hn given = omega arith
 slot-line-length slot name largest LengthField.Undefined hn given = simp sizes (omega (arith, slot-length slot))
@@ -103,9 +103,9 @@ slot-line-length slot name largest (LengthField.Expr e) hn given =
 
 -- the words of a range, where it holds a number
 abbrev pub Small : Option (ℕ × ℕ) → Type 0
-Small (some r) = (r.0 < 2 ^ 64) × (r.1 < 2 ^ 64)
-Small none = Unit {0}
+Small (Some r) = (r.0 < 2 ^ 64) × (r.1 < 2 ^ 64)
+Small None = Unit {0}
 
 pub range_length : (range : Option (ℕ × ℕ)) → Small range → length (spaced (range_words range)) ≤ 42
-range_length (some r) small = simp sizes (omega (arith, u64-length r.0 small.0, u64-length r.1 small.1))
-range_length none small = omega (arith, no-words-length)
+range_length (Some r) small = simp sizes (omega (arith, u64-length r.0 small.0, u64-length r.1 small.1))
+range_length None small = omega (arith, no-words-length)

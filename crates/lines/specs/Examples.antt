@@ -1,6 +1,6 @@
 -- The lines at values. Assumes nothing.
 use Rattle.std.specs.Prelude.{◌≡◌, refl, [], ◌∷◌}
-use Rattle.std.proofs.Math.Option.{none, some}
+use Rattle.std.specs.Prelude.{None, Some}
 use Rattle.text.specs.Text.{digits, decimal, hex, spaced, line}
 use Rattle.answer.specs.declared.Group.{Group}
 use Rattle.expr.specs.declared.UsableAlgExpr.{UsableAlgExpr}
@@ -21,13 +21,13 @@ some_bytes : template_line (65 ∷ 0 ∷ 13 ∷ []) ≡ ascii "template 41000d\n
 unfolding template_line line spaced hex
 some_bytes = refl
 
-undefined : length_line 1 [] none LengthField.Undefined ≡ ascii "length payload_len undefined\n"
+undefined : length_line 1 [] None LengthField.Undefined ≡ ascii "length payload_len undefined\n"
 unfolding undefined_line line spaced
 undefined = refl
 
-worked : length_line 2 (ascii "size") (some 4095) (LengthField.Expr UsableAlgExpr.IdentOnly) ≡ ascii "length packet_len size 4095\n"
+worked : length_line 2 (ascii "size") (Some 4095) (LengthField.Expr UsableAlgExpr.IdentOnly) ≡ ascii "length packet_len size 4095\n"
 unfolding worked_line line spaced decimal digits
 worked = refl
 
-absent : length_line 0 [] none LengthField.Absent ≡ []
+absent : length_line 0 [] None LengthField.Absent ≡ []
 absent = refl

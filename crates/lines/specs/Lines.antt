@@ -1,6 +1,6 @@
 -- The lines of the lister. Assumes nothing.
-use Rattle.std.specs.Prelude.{cond, List, [], ◌∷◌, ℕ, ◌/◌, ◌%◌, eqb, length}
-use Rattle.std.proofs.Math.Option.{Option, none, some}
+use Rattle.std.specs.Prelude.{cond, List, [], ◌∷◌, ℕ, ◌/◌, ◌%◌, eqb}
+use Rattle.std.specs.Prelude.{Option, None, Some}
 use Rattle.text.specs.Text.{decimal, hex, line}
 use Rattle.answer.specs.declared.Group.{Group}
 use Rattle.types.specs.Types.{type_name}
@@ -63,8 +63,8 @@ slot_name slot = cond (eqb slot 0) (ascii "header_len") (cond (eqb slot 1) (asci
 
 -- a number as a word, where there is one
 abbrev pub number_word : Option ℕ → List (List ℕ)
-number_word (some n) = decimal n ∷ []
-number_word none = []
+number_word (Some n) = decimal n ∷ []
+number_word None = []
 
 unfoldable pub undefined_line : ℕ → List ℕ
 undefined_line slot = line (ascii "length") (slot_name slot ∷ ascii "undefined" ∷ [])
@@ -81,5 +81,5 @@ length_line slot name largest (LengthField.Expr e) = worked_line slot name large
 
 -- the words of a range, where it holds a number
 abbrev pub range_words : Option (ℕ × ℕ) → List (List ℕ)
-range_words (some r) = decimal r.0 ∷ decimal r.1 ∷ []
-range_words none = []
+range_words (Some r) = decimal r.0 ∷ decimal r.1 ∷ []
+range_words None = []

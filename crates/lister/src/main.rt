@@ -4,24 +4,26 @@
 
 use std::io;
 use std::process::ExitCode;
-use streams::Input;
 
-// A line on standard error: what failed, and why.
-fn failed(rt: &impl Eprint, what: &str, why: io::Error) -> ExitCode {
-    let _ = eprintln!(rt; "lister: {what}: {why}");
-    ExitCode::FAILURE
+// Lists standard input on standard output, or answers what failed, and why.
+fn list(rt: &HostRuntime) -> Result<(), (&'static str, io::Error)> {
+    let mut input = [0; 50689];
+    let n = streams::read_to_end(&mut rt.stdin(), &mut input).map_err(|why| (
+        "cannot read standard input",
+        why,
+    ))?;
+    let mut out = [0; 40000];
+    let k = listing::list_input(&input, n, &mut out);
+    rt.write_all(&out[..k])
+        .map_err(|why| ("cannot write standard output", why))
 }
 
 fn main(rt: HostRuntime) -> ExitCode {
-    let mut input = [0u8; 50689];
-    let n = match streams::read_to_end(&mut rt.stdin(), &mut input) {
-        Input::Bytes(n) => n,
-        Input::Failed(why) => return failed(&rt, "cannot read standard input", why),
-    };
-    let mut out = [0u8; 40000];
-    let k = listing::list_input(&input, n, &mut out);
-    match rt.write_all(&out[..k]) {
+    match list(&rt) {
         Ok(()) => ExitCode::SUCCESS,
-        Err(why) => failed(&rt, "cannot write standard output", why),
+        Err((what, why)) => {
+            let _ = eprintln!(rt; "lister: {what}: {why}");
+            ExitCode::FAILURE
+        }
     }
 }

@@ -3,7 +3,7 @@
 use mathlib.Core.Path.{◌≡◌, refl}
 use mathlib.Core.Bool.{Bool, true, false, cond, ◌&&◌}
 use mathlib.Core.List.{List}
-use mathlib.Core.Option.{Option, none, some}
+use Rattle.std.specs.Prelude.{Option, None, Some}
 use Prim.Native.Nat.{ℕ, zero, suc, ◌+◌, ◌*◌, ◌^◌, ◌≤◌, ◌<◌}
 use native.Mathlib.Nat.{le_refl, lt_of_le_of_lt, suc-mul}
 use native.Mathlib.Decide.{dec_lt}
@@ -29,7 +29,7 @@ use Rattle.header.specs.Step.{header_bytes}
 use Rattle.header.proofs.Starts.{field-inside}
 use Rattle.slots.specs.Slots.{block_of_slot, length_field}
 use Rattle.length.specs.Step.{largest_length}
-use Rattle.bounds.specs.declared.Bound.{Bound}
+use Rattle.std.specs.declared.ops.Bound.{Bound}
 use Rattle.bounds.specs.Bounds.{to_end, first_of, clipped_end, last_of}
 use Rattle.cond.specs.Ranges.{range_in, largest_of}
 use Rattle.cond.specs.Step.{is_entry, numbers_in, range_numbers}
@@ -49,29 +49,29 @@ use Rattle.listing.proofs.Front.{printed-front}
 -- ---- the numbers of a range
 
 -- where the end is cut at a largest number, the last is at most that
-cut : (most : ℕ) (test : Bool) (end : Bound) → (test ≡ false → last_of end ≤ most) → last_of (cond test (Bound.Included most) end) ≤ most
+cut : (most : ℕ) (test : Bool) (end : Bound ℕ) → (test ≡ false → last_of end ≤ most) → last_of (cond test (Bound.Included most) end) ≤ most
 cut most true end h = le_refl most
 cut most false end h = h refl
 
-last-le : (end : Bound) (most : ℕ) → last_of (clipped_end end most) ≤ most
+last-le : (end : Bound ℕ) (most : ℕ) → last_of (clipped_end end most) ≤ most
 last-le Bound.Unbounded most = le_refl most
 last-le (Bound.Included e) most = cut most (ltb most e) (Bound.Included e) (ltb-false most e)
 last-le (Bound.Excluded e) most = cut most (ltb (most + 1) e) (Bound.Excluded e) (λ f. omega (arith, ltb-false (most + 1) e f))
 
 -- both are below 2 ^ 64, of any bytes
-small-where : (test : Bool) (range : Option (ℕ × ℕ)) → (test ≡ true → Small range) → Small (cond test range none)
+small-where : (test : Bool) (range : Option (ℕ × ℕ)) → (test ≡ true → Small range) → Small (cond test range None)
 small-where true range h = h refl
 small-where false range h = tt
 
 module _ (s : List ℕ) (i k : ℕ) where
   numbers-small : (found : Option ℕ) → Small (numbers_in s found (block_at s i) k)
-  numbers-small (some j) =
+  numbers-small (Some j) =
       let r = range_in (block_at s i) k in
       let most = largest_of (field_at s j) in
       let first = first_of r.start in
-      small-where (ltb first (2 ^ 64) && to_end (clipped_end r.end most) first) (some (first, last_of (clipped_end r.end most)))
+      small-where (ltb first (2 ^ 64) && to_end (clipped_end r.end most) first) (Some (first, last_of (clipped_end r.end most)))
       (λ t. (ltb-true first (2 ^ 64) (both_hold _ _ t).0, lt_of_le_of_lt (last-le r.end most) (largest-fits (field_at s j))))
-  numbers-small none = tt
+  numbers-small None = tt
 
   range_small : Small (range_numbers s i k)
   unfolding range_numbers

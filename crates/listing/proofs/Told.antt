@@ -1,4 +1,5 @@
--- What the program was told of an accepted sheet: its header, its counts, and the template in front of a buffer. Assumes nothing.
+-- What the program was told of an accepted sheet: its counts, and the template in front of a buffer. Assumes nothing.
+use Rattle.std.specs.Prelude.{Ok}
 use mathlib.Core.Path.{◌≡◌, refl, sym, ap, ◌∙◌}
 use mathlib.Core.List.{List}
 use Prim.Native.Nat.{ℕ, zero, suc, ◌*◌, ◌/◌, ◌≤◌}
@@ -6,19 +7,15 @@ use native.Mathlib.Omega.{arith}
 use lib.ListN.{length, drop, replicate}
 use lib.Seq.{slice, take_at}
 use Rattle.answer.specs.declared.Refusal.{Refusal}
-use Rattle.answer.specs.declared.Verdict.{Verdict}
-use Rattle.answer.specs.Paper.{gives, accepted, group_of, number_of, place_of, refusal_says, ◌and_then◌}
-use Rattle.answer.proofs.Chains.{given, never-given}
+use Rattle.answer.specs.Paper.{accepted, group_of, number_of, place_of, refusal_says}
 use Rattle.octets.specs.Octets.{AreBytes}
 use Rattle.sheet.specs.declared.Counts.{Counts}
 use Rattle.sheet.specs.Blocks.{block_count, counts_of}
 use Rattle.sheet.proofs.SheetIs.{in_order}
 use Rattle.layout.specs.Layout.{bits, template}
 use Rattle.layout.proofs.Filled.{template-only, template-size, template-in}
-use Rattle.header.specs.declared.Header.{Header}
-use Rattle.header.specs.declared.NewHeader.{NewHeader}
 use Rattle.header.specs.Starts.{header_layout}
-use Rattle.header.specs.Step.{header_check, header_bytes, header_of, new_header, new_header_says}
+use Rattle.header.specs.Step.{header_bytes}
 use Rattle.header.proofs.Starts.{layout-length}
 use Rattle.definition.specs.Definition.{Accepted}
 use Rattle.definition.proofs.Steps.{five-steps, layout-whole, good-layout}
@@ -33,14 +30,6 @@ zero-bytes (suc n) zero = omega arith
 zero-bytes (suc n) (suc i) = zero-bytes n i
 
 module _ (s : List ℕ) where
-  -- ---- the header
-
-  pub same-header : {n : NewHeader} {h : Header} → n ≡ NewHeader.Is h → new_header_says n ≡ new_header s → h ≡ header_of s
-  same-header is e = sym (given (header_check s) (sym e ∙ ap new_header_says is)).1
-
-  pub has-header : {n : NewHeader} {r : Refusal} → Accepted s → n ≡ NewHeader.Refused r → new_header_says n ≡ new_header s → ⊥
-  has-header ok is e = never-given (sym e ∙ ap new_header_says is) (ap (λ x. x and_then gives (header_of s)) (five-steps s ok).header)
-
   -- ---- the counts
 
   pub counts-small : {n : Counts} → Accepted s → n ≡ counts_of s (block_count s) → (n.fields ≤ 64) × (n.lengths ≤ 3) × (n.conds ≤ 32)
@@ -66,19 +55,16 @@ module _ (s : List ℕ) where
     template-bytes = omega (arith, layout-whole s ok, template-size (header_layout s) (good-layout s ok))
 
   -- the one that was built
-  module _ {b b' : List ℕ} (bytes : AreBytes b) (built : TemplateBuilt s b b' Verdict.Accepted) where
+  module _ {b b' : List ℕ} (bytes : AreBytes b) (built : TemplateBuilt s b b' (Ok tt)) where
     checked : Accepted s × (header_bytes s ≤ length b)
     checked = (room-is s (length b)).0 (sym built.answer)
-
-    pub built-accepted : Accepted s
-    built-accepted = checked.0
 
     -- it is in front of the buffer
     pub built-front : slice 0 (header_bytes s) b' ≡ template (header_layout s)
     built-front =
         let fs = header_layout s in
-        let ok-fields = good-layout s built-accepted in
-        let room : bits fs ≤ 8 * length b = omega (arith, layout-whole s built-accepted, checked.1) in
+        let ok-fields = good-layout s checked.0 in
+        let room : bits fs ≤ 8 * length b = omega (arith, layout-whole s checked.0, checked.1) in
         let filled = rw (← (layout-length s)) at (built.filled refl) in
         let bytes-are = template-only fs ok-fields b b' room filled ∙ template-in fs ok-fields b bytes room in
-        rw bytes-are (take_at (template fs) (drop (bits fs / 8) b) (header_bytes s) (template-bytes built-accepted))
+        rw bytes-are (take_at (template fs) (drop (bits fs / 8) b) (header_bytes s) (template-bytes checked.0))

@@ -1,73 +1,60 @@
 // The listing of a sheet: its text, written into a lent buffer.
 #![tactic(auto)]
 
-ghost use Rattle.std.specs.Prelude.{◌≡◌, ◌≤◌};
+ghost use Rattle.std.specs.Prelude.{◌≡◌, ◌≤◌, MatchResult};
 ghost use Rattle.std.proofs.Math.Seq.{slice};
 ghost use Rattle.text.specs.Text.{spaced, texts};
 ghost use Rattle.text.specs.Output.{emit};
 ghost use Rattle.layout.specs.Layout.{template};
 ghost use Rattle.header.specs.Starts.{header_layout};
 ghost use Rattle.header.specs.Step.{header_bytes};
-ghost use Rattle.definition.specs.Definition.{Accepted};
+ghost use Rattle.template.specs.Template.{TemplateBuilt};
 ghost use Rattle.listing.specs.Listing.{field_text, slot_text, ranges_from, cond_text, listing, printed, Listed, InputListed};
 
-use answer::Verdict;
-use header::{Header, NewHeader};
+use answer::Refusal;
+use definition::Definition;
 use number::Bits;
 use octets::part;
-use text::{Cursor, put_byte, put_bytes, put_word};
+use text::{put_byte, put_bytes, put_word};
 
 // The lines of the first n fields.
-fn put_fields(out: &mut [u8], to: Cursor, s: &[u8], n: usize) -> Cursor
+fn put_fields(out: &mut [u8], to: Option<usize>, s: &[u8], n: usize) -> Option<usize>
     requires { n ≤ 64 }
     ensures { (out.new, result) ≡ emit (texts (field_text s.now) 0 n) (out.old, to) }
 {
     let mut p = to;
     let mut start = Bits(0);
-    let mut i = 0;
-    while i < n {
+    for i in 0..n {
         let b = sheet::block(s, i);
         let f = field_blocks::resolved(b);
         p = lines::put_field(out, p, i, start, f, blocks::name(b));
         start = Bits(start.0 + f.width.0);
-        i += 1;
     }
     p
 }
 
 // The line of a length slot, or none.
-fn put_slot(out: &mut [u8], to: Cursor, s: &[u8], slot: u8) -> Cursor
+fn put_slot(out: &mut [u8], to: Option<usize>, s: &[u8], slot: u8) -> Option<usize>
     ensures { (out.new, result) ≡ emit (slot_text s.now slot) (out.old, to) }
 {
     let l = definition::unchecked_length_slot(s, slot);
-    let held = l.held;
-    let largest = l.largest;
-    let at = l.at;
-    lines::put_length(
-        out,
-        to,
-        slot,
-        blocks::name(sheet::block(s, at)),
-        largest,
-        held,
-    )
+    let name = blocks::name(sheet::block(s, l.at));
+    lines::put_length(out, to, slot, name, l.largest, l.held)
 }
 
 // The ranges of the condition in block i.
-fn put_ranges(out: &mut [u8], to: Cursor, s: &[u8], i: usize, n: u8) -> Cursor
+fn put_ranges(out: &mut [u8], to: Option<usize>, s: &[u8], i: usize, n: u8) -> Option<usize>
     ensures { (out.new, result) ≡ emit (spaced (ranges_from s.now i 0 n)) (out.old, to) }
 {
     let mut p = to;
-    let mut j: u8 = 0;
-    while j < n {
+    for j in 0..n {
         p = lines::put_range(out, p, cond::range_numbers(s, i, j));
-        j += 1;
     }
     p
 }
 
 // The line of the condition in block i.
-fn put_cond(out: &mut [u8], to: Cursor, s: &[u8], i: usize) -> Cursor
+fn put_cond(out: &mut [u8], to: Option<usize>, s: &[u8], i: usize) -> Option<usize>
     ensures { (out.new, result) ≡ emit (cond_text s.now i) (out.old, to) }
 {
     let b = sheet::block(s, i);
@@ -78,32 +65,27 @@ fn put_cond(out: &mut [u8], to: Cursor, s: &[u8], i: usize) -> Cursor
 }
 
 // The lines of the conditions in the blocks from a up to, not including, e.
-fn put_conds(out: &mut [u8], to: Cursor, s: &[u8], a: usize, e: usize) -> Cursor
+fn put_conds(out: &mut [u8], to: Option<usize>, s: &[u8], a: usize, e: usize) -> Option<usize>
     ensures { (out.new, result) ≡ emit (texts (cond_text s.now) a e) (out.old, to) }
 {
     let mut p = to;
-    let mut i = a;
-    while i < e {
+    for i in a..e {
         p = put_cond(out, p, s, i);
-        i += 1;
     }
     p
 }
 
-// All lines of an accepted sheet, whose template is at the front of `buf`.
-fn put_listing(out: &mut [u8], s: &[u8], buf: &[u8]) -> Cursor
-    requires accepted { Accepted s.now }
-    requires buf_value { slice 0 (header_bytes s.now) buf.now ≡ template (header_layout s.now) }
-    ensures { (out.new, result) ≡ emit (listing s.now) (out.old, Cursor.At 0) }
+// All lines of a definition, whose template is at the front of `buf`.
+fn put_listing(out: &mut [u8], d: &Definition<'_>, buf: &[u8]) -> Option<usize>
+    requires { slice 0 (header_bytes d.now.sheet.now) buf.now ≡ template (header_layout d.now.sheet.now) }
+    ensures { (out.new, result) ≡ emit (listing d.now.sheet.now) (out.old, Some 0) }
 {
-    let NewHeader::Is(h) = Header::new(s) else {
-        return Cursor::Full; // an accepted sheet has a header
-    };
-    let len = h.len;
+    let s = d.sheet;
+    let len = d.header.len;
     let n = sheet::block_counts(s);
     let first = n.fields + n.lengths;
     let end = first + n.conds;
-    let p = lines::put_header(out, Cursor::At(0), len);
+    let p = lines::put_header(out, Some(0), len);
     let p = put_fields(out, p, s, n.fields);
     let p = lines::put_template(out, p, part(buf, 0, len.0 as usize));
     let p = put_slot(out, p, s, 0);
@@ -112,14 +94,23 @@ fn put_listing(out: &mut [u8], s: &[u8], buf: &[u8]) -> Cursor
     put_conds(out, p, s, first, end)
 }
 
-// The listing, or the line of the refusal.
-fn put_text(out: &mut [u8], s: &[u8]) -> Cursor
-    ensures { (out.new, result) ≡ emit (printed s.now) (out.old, Cursor.At 0) }
+// The definition of a sheet, with its template at the front of a buffer; or the refusal.
+fn define<'a>(s: &'a [u8], buf: &mut [u8]) -> Result<Definition<'a>, Refusal>
+    ensures { MatchResult result (λ d. (d.sheet.now ≡ s.now) × TemplateBuilt s.now buf.old buf.new (Ok tt)) (λ r. TemplateBuilt s.now buf.old buf.new (Err r)) }
 {
-    let mut buf = [0u8; 8192];
-    match template::build_header_template(s, &mut buf) {
-        Verdict::Accepted => put_listing(out, s, &buf),
-        Verdict::Refused(reason) => lines::put_refusal(out, Cursor::At(0), reason),
+    let d = Definition::new(s)?;
+    template::build(&d, buf)?;
+    Ok(d)
+}
+
+// The listing, or the line of the refusal.
+fn put_text(out: &mut [u8], s: &[u8]) -> Option<usize>
+    ensures { (out.new, result) ≡ emit (printed s.now) (out.old, Some 0) }
+{
+    let mut buf = [0; 8192];
+    match define(s, &mut buf) {
+        Ok(d) => put_listing(out, &d, &buf),
+        Err(reason) => lines::put_refusal(out, Some(0), reason),
     }
 }
 

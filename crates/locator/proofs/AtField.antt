@@ -12,7 +12,7 @@ use borrow.Author.Tests.{lt-leb, ltb-true, lt-ltb}
 use Rattle.answer.specs.Paper.{gives, refused, Check, accepted}
 use Rattle.answer.proofs.Chains.{given}
 use Rattle.answer.proofs.Tests.{same_test}
-use Rattle.layout.specs.Layout.{HeaderField, field, start, width, Good}
+use Rattle.layout.specs.Layout.{HeaderField, field, Good}
 use Rattle.layout.specs.Access.{Value, of_bytes, spells, reach, suit, run_value, value_at, read, write, write_check, after, apply}
 use Rattle.layout.proofs.Access.{reach-is, write-is}
 use Rattle.locator.specs.declared.Locator.{Locator}

@@ -1,7 +1,7 @@
 -- What the tests at a locator let pass, and the contracts by their cases: what the functions on runs answer is what access 1 to 5 say, and where they are
 -- not asked the refusal stands and nothing is changed. Then: answers that say the same are the same. Assumes nothing.
 use mathlib.Core.Path.{◌≡◌, refl, sym, ap, ◌∙◌}
-use mathlib.Core.Bool.{Bool, true, false, cond, not, ◌&&◌, ◌||◌, beq, and-false}
+use mathlib.Core.Bool.{Bool, true, false, cond, not, ◌&&◌, ◌||◌, and-false}
 use mathlib.Core.List.{List, []}
 use mathlib.Core.Logic.Iff
 use mathlib.Core.Logic.{◌↔◌, ⊎_elim}
@@ -10,27 +10,24 @@ use native.Mathlib.Omega.{arith}
 use lib.Dec.{leb, ltb, eqb}
 use lib.ListN.{length, take, drop}
 use borrow.Author.Tests.{leb-true, le-leb, ltb-true, ltb-false, lt-ltb, le-ltb, eqb-true, eq-eqb, not-true, not-false}
+use Rattle.std.specs.Prelude.{Option, Some, None, Result, Ok, Err}
 use Rattle.answer.specs.declared.Group.{Group}
-use Rattle.answer.specs.declared.Verdict.{Verdict}
-use Rattle.answer.specs.Paper.{Answer, gives, refused, Check, accepted, is_given, verdict_says, refuse, ◌and_then◌}
-use Rattle.answer.proofs.Chains.{stand, both_is, refuse-is, and_then-accepted}
+use Rattle.answer.specs.declared.Refusal.{Refusal}
+use Rattle.answer.specs.Paper.{Answer, gives, refused, Check, accepted, is_given, says, refuse, ◌and_then◌}
+use Rattle.answer.proofs.Chains.{stand as refusal-stands, both_is, refuse-is, and_then-accepted}
 use Rattle.answer.proofs.Tests.{clash, same_test, both_hold, neither, one-or-other, fails-is, and_is, leb-is, ltb-is-not, eqb_is, not_is}
-use Rattle.answer.proofs.OneToOne.{refusal-one, verdict-one}
+use Rattle.answer.proofs.OneToOne.{refusal-one, says-one}
 use Rattle.number.specs.Numbers.{max_bytes}
-use Rattle.bits.specs.declared.NumberRead.{NumberRead}
-use Rattle.bits.specs.declared.NumberSeen.{NumberSeen}
-use Rattle.bits.specs.declared.NumberWrite.{NumberWrite}
-use Rattle.bits.specs.declared.BytesWrite.{BytesWrite}
+use Rattle.bits.specs.declared.RunFault.{RunFault}
 use Rattle.bits.specs.Bits.{value, spelled, touched}
 use Rattle.bits.specs.Writes.{put}
-use Rattle.bits.specs.Runs.{read_as, read_number, seen, read_at_once, write_as, write_answer, is_done, after_number, NumberWritten, NumberAtOnce, bytes_as, bytes_at, after_bytes, BytesWritten}
+use Rattle.bits.specs.Runs.{RunCheck, after_write, read_as, read_number, seen, read_at_once, write_as, write_answer, is_done, NumberWritten, NumberAtOnce, bytes_as, bytes_at, BytesWritten}
 use Rattle.bits.proofs.Windows.{by-fit, by_place}
-use Rattle.layout.specs.Access.{Value, number, bytes, of_bytes, spells, OfSize, reach_by, suit, run_value, after}
+use Rattle.layout.specs.Access.{Value, number, bytes, of_bytes, spells, OfSize, suit, run_value, after}
 use Rattle.layout.proofs.Access.{kind-is, fits-is, fixed-is}
 use Rattle.locator.specs.declared.Held.{Held}
 use Rattle.locator.specs.declared.Locator.{Locator}
-use Rattle.locator.specs.declared.NumberAnswer.{NumberAnswer}
-use Rattle.locator.specs.Working.{bars_number}
+use Rattle.locator.specs.Working.{holds_no_number, holds_no_bytes, bars_number, at_field}
 use Rattle.locator.specs.Locator.{locator_header, first_bit, locator_width, held_is_bytes, is_number_of, is_bytes_of, has_shape, is_locator, held_default, held_fixed, field_located, reach_at, write_check_at, read_at, seen_of, seen_at, apply_at, WrittenAt, WrittenAtOnce, number_answer_says, part_of}
 
 -- ---- counts of bits held against counts of bytes
@@ -118,22 +115,6 @@ module _ (p : Locator) (n : ℕ) (as_bytes : Bool) where
   reached-is = simp (both_is, refuse-is, not_is, located-is, ltb-is-not, kind-is)
       (λ q. record { located = q.0; long = q.1.0; kind = q.1.1 }, λ r. (r.located, (r.long, r.kind)))
 
-  -- as the program tests it, all at once
-  pub tests-are : (((is_locator p && leb (locator_header p) n) && beq as_bytes (held_is_bytes p.held)) ≡ true) ↔ (reach_at p n as_bytes ≡ accepted)
-  tests-are = simp (reached-is, and_is, located-is, leb-is, kind-is)
-      (λ q. record { located = q.0.0; long = q.0.1; kind = q.1 }, λ r. ((r.located, r.long), r.kind))
-
-  -- where they do not let pass, it is access 1, else 2, else 3
-  pub not-reached : (reach_at p n as_bytes ≡ accepted → ⊥) → reach_by (not (is_locator p)) (ltb n (locator_header p)) true p.index ≡ reach_at p n as_bytes
-  unfolding reach_at
-  not-reached = of (not (is_locator p)) (ltb n (locator_header p)) (not (beq as_bytes (held_is_bytes p.held)))
-    where
-      of : (none short other : Bool) → (reach_by none short other p.index ≡ accepted → ⊥) → reach_by none short true p.index ≡ reach_by none short other p.index
-      of true short other h = refl
-      of false true other h = refl
-      of false false true h = refl
-      of false false false h = absurd (h refl)
-
   -- one that no field can have is access 1, in a short buffer too; and a short buffer is access 2, whatever is asked
   pub access-1 : (Located p → ⊥) → reach_at p n as_bytes ≡ refused Group.Access 1 p.index
   unfolding reach_at
@@ -145,19 +126,19 @@ module _ (p : Locator) (n : ℕ) (as_bytes : Bool) where
 
 -- ---- reads of numbers
 
--- neither of two tests as the program makes them stood against it: the one does not hold, the other does
-pub not-barred : {over holds a b : Bool} → over ≡ a → holds ≡ b → (over || not holds) ≡ false → (a ≡ false) × (b ≡ true)
-not-barred {over} {holds} e f g = let two = neither over (not holds) g in (sym e ∙ two.0, sym f ∙ not-false holds two.1)
+-- what is said of a read of the run, and of a write to it; and the buffer after the write
+abbrev told_at : ℕ → Result ℕ RunFault → Answer Value
+told_at i r = number_answer_says (at_field i r)
 
--- what a read of the run says, with the index of the field
-abbrev pub number_told_at : ℕ → NumberRead → Answer Value
-number_told_at i (NumberRead.Number x) = gives (number x)
-number_told_at i NumberRead.TooWide = refused Group.Access 1 i
-number_told_at i NumberRead.Outside = refused Group.Access 1 i
-number_told_at i NumberRead.Short = refused Group.Access 2 i
+abbrev left_at : ℕ → RunCheck → Check
+left_at i r = says (at_field i r)
+
+left-is : (i : ℕ) (r : RunCheck) (b c : List ℕ) → after_write r b c ≡ after (left_at i r) c b
+left-is i (Ok _) b c = refl
+left-is i (Err fault) b c = refl
 
 -- where the header is too long, or no such number is held, none is reached
-pub no_number : (p : Locator) (n : ℕ) → (ltb max_bytes (locator_header p) || not (is_number_of p.held (locator_width p))) ≡ true → reach_at p n false ≡ accepted → ⊥
+pub no_number : (p : Locator) (n : ℕ) → holds_no_number p ≡ true → reach_at p n false ≡ accepted → ⊥
 no_number p n e r =
     let at = (reached-is p n false).0 r in
     ⊎_elim
@@ -165,71 +146,69 @@ no_number p n e r =
     (λ other. clash (sym ((number-shape p.held (first_bit p) (locator_width p) (sym at.kind)).0 at.located.shape).0 ∙ not-true (is_number_of p.held (locator_width p)) other))
     (one-or-other (ltb max_bytes (locator_header p)) (not (is_number_of p.held (locator_width p))) e)
 
-module _ (p : Locator) (b : List ℕ) where
-  -- a refusal stands
-  pub read-refused : (as_bytes : Bool) {g : Group} {n at : ℕ} → refused g n at ≡ reach_at p (length b) as_bytes → refused g n at ≡ read_at p b as_bytes
-  unfolding read_at
-  read-refused as_bytes e = rw (← e)
+-- otherwise the run decides
+module _ (p : Locator) (b : List ℕ) (free : holds_no_number p ≡ false) where
+  few : ltb max_bytes (locator_header p) ≡ false
+  few = (neither _ _ free).0
 
-  -- otherwise the run decides
-  module _ (few : ltb max_bytes (locator_header p) ≡ false) (holds : is_number_of p.held (locator_width p) ≡ true) where
-    kind : held_is_bytes p.held ≡ false
-    kind = number-kind p.held (locator_width p) holds
+  holds : is_number_of p.held (locator_width p) ≡ true
+  holds = not-false (is_number_of p.held (locator_width p)) (neither (ltb max_bytes (locator_header p)) _ free).1
 
-    stands : touched (first_bit p) (locator_width p) ≤ 8 → first_bit p + locator_width p ≤ 8 * locator_header p → Located p
-    stands narrow inside = record {
-      most = ltb-false max_bytes (locator_header p) few;
-      inside = inside;
-      shape = (number-shape p.held (first_bit p) (locator_width p) kind).1 (holds, narrow);
-    }
+  kind : held_is_bytes p.held ≡ false
+  kind = number-kind p.held (locator_width p) holds
 
-    narrow : Located p → touched (first_bit p) (locator_width p) ≤ 8
-    narrow at = ((number-shape p.held (first_bit p) (locator_width p) kind).0 at.shape).1
+  stands : touched (first_bit p) (locator_width p) ≤ 8 → first_bit p + locator_width p ≤ 8 * locator_header p → Located p
+  stands narrow inside = record {
+    most = ltb-false max_bytes (locator_header p) few;
+    inside = inside;
+    shape = (number-shape p.held (first_bit p) (locator_width p) kind).1 (holds, narrow);
+  }
 
-    pub number-told : {r : NumberRead} → r ≡ read_number b (locator_header p) (first_bit p) (locator_width p) → number_told_at p.index r ≡ read_at p b false
-    unfolding read_number read_at
-    number-told e =
-        ap (number_told_at p.index) e
-        ∙ by-fit (length b) (locator_header p) (first_bit p) (locator_width p)
-        (λ f. number_told_at p.index (read_as f (value b (first_bit p) (locator_width p))) ≡ (reach_at p (length b) false and_then gives (number (value b (first_bit p) (locator_width p)))))
-        (λ wide. rw (access-1 p (length b) false (λ at. omega (arith, narrow at))))
-        (λ _ past. rw (access-1 p (length b) false (λ at. omega (arith, at.inside))))
-        (λ l inside short. rw (access-2 p (length b) false (stands l inside) short))
-        (λ l inside long. rw ((reached-is p (length b) false).1 (record { located = stands l inside; long = long; kind = sym kind })))
+  narrow : Located p → touched (first_bit p) (locator_width p) ≤ 8
+  narrow at = ((number-shape p.held (first_bit p) (locator_width p) kind).0 at.shape).1
+
+  pub number-told : {r : Result ℕ RunFault} → r ≡ read_number b (locator_header p) (first_bit p) (locator_width p) → number_answer_says (at_field p.index r) ≡ read_at p b false
+  unfolding read_number read_at
+  number-told e =
+      ap (told_at p.index) e
+      ∙ by-fit (length b) (locator_header p) (first_bit p) (locator_width p)
+      (λ f. told_at p.index (read_as f (value b (first_bit p) (locator_width p))) ≡ (reach_at p (length b) false and_then gives (number (value b (first_bit p) (locator_width p)))))
+      (λ wide. rw (access-1 p (length b) false (λ at. omega (arith, narrow at))))
+      (λ _ past. rw (access-1 p (length b) false (λ at. omega (arith, at.inside))))
+      (λ l inside short. rw (access-2 p (length b) false (stands l inside) short))
+      (λ l inside long. rw ((reached-is p (length b) false).1 (record { located = stands l inside; long = long; kind = sym kind })))
 
 -- ---- a read at once
 
 -- what a read of the run says is seen so
-seen-told : (i : ℕ) (r : NumberRead) → seen r ≡ seen_of (number_told_at i r)
-seen-told i (NumberRead.Number v) = refl
-seen-told i NumberRead.TooWide = refl
-seen-told i NumberRead.Outside = refl
-seen-told i NumberRead.Short = refl
+seen-told : (i : ℕ) (r : Result ℕ RunFault) → seen r ≡ seen_of (told_at i r)
+seen-told i (Ok v) = refl
+seen-told i (Err fault) = refl
 
 module _ (p : Locator) (b : List ℕ) where
-  pub number-seen : ltb max_bytes (locator_header p) ≡ false → is_number_of p.held (locator_width p) ≡ true → read_at_once b (locator_header p) (first_bit p) (locator_width p) ≡ seen_at p b
-  number-seen few holds =
+  pub number-seen : holds_no_number p ≡ false → read_at_once b (locator_header p) (first_bit p) (locator_width p) ≡ seen_at p b
+  number-seen free =
       let r = read_number b (locator_header p) (first_bit p) (locator_width p) in
-      ap (λ (x : NumberSeen). cond (leb 8 (length b)) x NumberSeen.None) (seen-told p.index r ∙ ap seen_of (number-told p b few holds {r = r} refl))
+      ap (λ (x : Option ℕ). cond (leb 8 (length b)) x None) (seen-told p.index r ∙ ap seen_of (number-told p b free {r = r} refl))
 
   -- where no number is reached, none is seen
-  pub not_seen : (reach_at p (length b) false ≡ accepted → ⊥) → NumberSeen.None ≡ seen_at p b
+  pub not_seen : holds_no_number p ≡ true → None ≡ seen_at p b
   unfolding read_at
-  not_seen never = of (leb 8 (length b)) (reach_at p (length b) false) never
+  not_seen none = of (leb 8 (length b)) (reach_at p (length b) false) (no_number p (length b) none)
     where
       read : Value
       read = run_value b false (first_bit p) (locator_width p)
 
-      of : (long : Bool) (x : Check) → (x ≡ accepted → ⊥) → NumberSeen.None ≡ cond long (seen_of (x and_then gives read)) NumberSeen.None
-      of true (gives _) none = absurd (none refl)
-      of true (refused g n at) none = refl
-      of false x none = refl
+      of : (long : Bool) (x : Check) → (x ≡ accepted → ⊥) → None ≡ cond long (seen_of (x and_then gives read)) None
+      of true (gives _) never = absurd (never refl)
+      of true (refused g n at) never = refl
+      of false x never = refl
 
   -- and a number that is seen is the one that is read
-  pub seen-is : {v : ℕ} → NumberSeen.Is v ≡ seen_at p b → read_at p b false ≡ gives (number v)
+  pub seen-is : {v : ℕ} → Some v ≡ seen_at p b → read_at p b false ≡ gives (number v)
   seen-is {v} = of (leb 8 (length b)) (read_at p b false)
     where
-      of : (long : Bool) (x : Answer Value) → NumberSeen.Is v ≡ cond long (seen_of x) NumberSeen.None → x ≡ gives (number v)
+      of : (long : Bool) (x : Answer Value) → Some v ≡ cond long (seen_of x) None → x ≡ gives (number v)
       of true (gives (number w)) e = cc
       of true (gives (bytes l)) e = cc
       of true (refused g n at) e = cc
@@ -238,7 +217,7 @@ module _ (p : Locator) (b : List ℕ) where
 -- ---- reads of bytes
 
 -- where the header is too long, or no such bytes are held, none are reached
-pub no_bytes : (p : Locator) (n : ℕ) → (ltb max_bytes (locator_header p) || not (is_bytes_of p.held (first_bit p) (locator_width p))) ≡ true → reach_at p n true ≡ accepted → ⊥
+pub no_bytes : (p : Locator) (n : ℕ) → holds_no_bytes p ≡ true → reach_at p n true ≡ accepted → ⊥
 no_bytes p n e r =
     let at = (reached-is p n true).0 r in
     ⊎_elim
@@ -246,46 +225,41 @@ no_bytes p n e r =
     (λ other. clash (sym ((bytes-shape p.held (first_bit p) (locator_width p) (sym at.kind)).0 at.located.shape) ∙ not-true (is_bytes_of p.held (first_bit p) (locator_width p)) other))
     (one-or-other (ltb max_bytes (locator_header p)) (not (is_bytes_of p.held (first_bit p) (locator_width p))) e)
 
-module _ (p : Locator) (b : List ℕ) where
-  -- an empty part where they are not reached
-  unread : (reach_at p (length b) true ≡ accepted → ⊥) → [] ≡ part_of (read_at p b true)
-  unfolding read_at
-  unread = of (reach_at p (length b) true)
-    where
-      of : (x : Check) → (x ≡ accepted → ⊥) → [] ≡ part_of (x and_then gives (run_value b true (first_bit p) (locator_width p)))
-      of (gives _) h = absurd (h refl)
-      of (refused g n at) h = refl
+-- and so an empty part is read
+pub nothing_read : (p : Locator) (b : List ℕ) → holds_no_bytes p ≡ true → [] ≡ part_of (read_at p b true)
+unfolding read_at
+nothing_read p b none = of (reach_at p (length b) true) (no_bytes p (length b) none)
+  where
+    of : (x : Check) → (x ≡ accepted → ⊥) → [] ≡ part_of (x and_then gives (run_value b true (first_bit p) (locator_width p)))
+    of (gives _) h = absurd (h refl)
+    of (refused g n at) h = refl
 
-  -- so where no such bytes are held
-  pub nothing_read : (ltb max_bytes (locator_header p) || not (is_bytes_of p.held (first_bit p) (locator_width p))) ≡ true → [] ≡ part_of (read_at p b true)
-  nothing_read e = unread (no_bytes p (length b) e)
+-- otherwise the run decides
+module _ (p : Locator) (b : List ℕ) (free : holds_no_bytes p ≡ false) where
+  are-bytes-of : is_bytes_of p.held (first_bit p) (locator_width p) ≡ true
+  are-bytes-of = not-false (is_bytes_of p.held (first_bit p) (locator_width p)) (neither (ltb max_bytes (locator_header p)) _ free).1
 
-  -- otherwise the run decides
-  module _ (few : ltb max_bytes (locator_header p) ≡ false) (holds : is_bytes_of p.held (first_bit p) (locator_width p) ≡ true) where
-    bytes-stand : first_bit p / 8 + locator_width p / 8 ≤ locator_header p → Located p
-    bytes-stand inside =
-        let whole = bytes_whole p.held (first_bit p) (locator_width p) holds in
-        record {
-          most = ltb-false max_bytes (locator_header p) few;
-          inside = omega (arith, whole);
-          shape = (bytes-shape p.held (first_bit p) (locator_width p) (bytes-kind p.held (first_bit p) (locator_width p) holds)).1 holds;
-        }
+  are-bytes : held_is_bytes p.held ≡ true
+  are-bytes = bytes-kind p.held (first_bit p) (locator_width p) are-bytes-of
 
-    bytes_inside : Located p → first_bit p / 8 + locator_width p / 8 ≤ locator_header p
-    bytes_inside at = omega (arith, at.inside, bytes_whole p.held (first_bit p) (locator_width p) holds)
+  whole : (first_bit p % 8 ≡ 0) × (locator_width p % 8 ≡ 0) × (16 ≤ locator_width p)
+  whole = bytes_whole p.held (first_bit p) (locator_width p) are-bytes-of
 
-    pub bytes-told : bytes_at b (locator_header p) (first_bit p / 8) (locator_width p / 8) ≡ part_of (read_at p b true)
-    unfolding bytes_at read_at
-    bytes-told =
-        by_place (length b) (locator_header p) (first_bit p / 8) (locator_width p / 8)
-        (λ (r : BytesWrite). bytes_as r (take (locator_width p / 8) (drop (first_bit p / 8) b)) ≡ part_of (reach_at p (length b) true and_then gives (run_value b true (first_bit p) (locator_width p))))
-        (λ past. rw (access-1 p (length b) true (λ at. omega (arith, bytes_inside at))))
-        (λ inside short. rw (access-2 p (length b) true (bytes-stand inside) short))
-        (λ inside long. rw ((reached-is p (length b) true).1 (record {
-          located = bytes-stand inside;
-          long = long;
-          kind = sym (bytes-kind p.held (first_bit p) (locator_width p) holds);
-        })))
+  bytes-stand : first_bit p / 8 + locator_width p / 8 ≤ locator_header p → Located p
+  bytes-stand inside = record {
+    most = ltb-false max_bytes (locator_header p) (neither _ _ free).0;
+    inside = omega (arith, whole);
+    shape = (bytes-shape p.held (first_bit p) (locator_width p) are-bytes).1 are-bytes-of;
+  }
+
+  pub bytes-told : bytes_at b (locator_header p) (first_bit p / 8) (locator_width p / 8) ≡ part_of (read_at p b true)
+  unfolding bytes_at read_at
+  bytes-told =
+      by_place (length b) (locator_header p) (first_bit p / 8) (locator_width p / 8)
+      (λ (r : RunCheck). bytes_as r (take (locator_width p / 8) (drop (first_bit p / 8) b)) ≡ part_of (reach_at p (length b) true and_then gives (run_value b true (first_bit p) (locator_width p))))
+      (λ past. rw (access-1 p (length b) true (λ at. omega (arith, at.inside, whole))))
+      (λ inside short. rw (access-2 p (length b) true (bytes-stand inside) short))
+      (λ inside long. rw ((reached-is p (length b) true).1 (record { located = bytes-stand inside; long = long; kind = sym are-bytes })))
 
 -- ---- writes
 
@@ -302,7 +276,7 @@ writable-is p n v = simp (both_is, refuse-is, reached-is, not_is, fits-is, fixed
 
 module _ (p : Locator) (b : List ℕ) (v : Value) where
   -- a write that is refused changes nothing
-  pub not_written : {j : Verdict} → (write_check_at p (length b) v ≡ accepted → ⊥) → verdict_says j ≡ write_check_at p (length b) v → WrittenAt p b b v j
+  pub not_written : {j : Result (Unit {0}) Refusal} → (write_check_at p (length b) v ≡ accepted → ⊥) → says j ≡ write_check_at p (length b) v → WrittenAt p b b v j
   unfolding apply_at
   not_written {j} never e = record { answer = e; bytes = of (write_check_at p (length b) v) never }
     where
@@ -311,10 +285,13 @@ module _ (p : Locator) (b : List ℕ) (v : Value) where
       of (refused g n at) h = refl
 
   -- what a run answered, and left, is what is owed
-  told-written : {c d : List ℕ} {j : Verdict} {x : Check} → c ≡ d → verdict_says j ≡ x → (x ≡ write_check_at p (length b) v) × (d ≡ after x (put b (first_bit p) (locator_width p) (spells v)) b)
-      → WrittenAt p b c v j
+  left-written : {c : List ℕ} (r : RunCheck) {j : Result (Unit {0}) Refusal} → c ≡ after_write r b (put b (first_bit p) (locator_width p) (spells v)) → j ≡ at_field p.index r
+      → left_at p.index r ≡ write_check_at p (length b) v → WrittenAt p b c v j
   unfolding apply_at
-  told-written left said is = record { answer = said ∙ is.0; bytes = rw (← is.0) (left ∙ is.1) }
+  left-written r left said is = record {
+    answer = ap says said ∙ is;
+    bytes = left ∙ left-is p.index r b _ ∙ ap (λ (x : Check). after x (put b (first_bit p) (locator_width p) (spells v)) b) is;
+  }
 
 -- access 4 and 5, past 1 to 3
 suits : (p : Locator) (n : ℕ) (v : Value) → Reached p n (of_bytes v) → write_check_at p n v ≡ suit (field_located p) v p.index
@@ -324,15 +301,7 @@ suits p n v r = rw ((reached-is p n (of_bytes v)).1 r)
 -- 1 to 3 stand
 pub reach-stands : (p : Locator) (n : ℕ) (v : Value) {g : Group} {k at : ℕ} → reach_at p n (of_bytes v) ≡ refused g k at → refused g k at ≡ write_check_at p n v
 unfolding write_check_at
-reach-stands p n v e = sym (stand (suit (field_located p) v p.index) e)
-
--- what a write of a number to the run says, with the index of the field
-abbrev pub number_left_at : ℕ → NumberWrite → Check
-number_left_at i NumberWrite.Done = accepted
-number_left_at i NumberWrite.TooWide = refused Group.Access 1 i
-number_left_at i NumberWrite.Outside = refused Group.Access 1 i
-number_left_at i NumberWrite.Short = refused Group.Access 2 i
-number_left_at i NumberWrite.TooLarge = refused Group.Access 4 i
+reach-stands p n v e = sym (refusal-stands (suit (field_located p) v p.index) e)
 
 -- where it is fixed to another number, too, no number is taken
 pub number-barred : (p : Locator) (n v : ℕ) → bars_number p v ≡ true → write_check_at p n (number v) ≡ accepted → ⊥
@@ -341,59 +310,44 @@ number-barred p n v e w =
     ⊎_elim
     (λ first. no_number p n first ((reached-is p n false).1 may.reached))
     (λ off. clash (sym off ∙ (fixed-is (held_fixed p.held) v (held_default p.held)).1 may.free))
-    (one-or-other (ltb max_bytes (locator_header p) || not (is_number_of p.held (locator_width p))) _ e)
+    (one-or-other (holds_no_number p) _ e)
 
 module _ (p : Locator) (b : List ℕ) (v : ℕ) (passed : bars_number p v ≡ false) where
   -- what was asked beside the run
-  not-barred-by : ((ltb max_bytes (locator_header p) || not (is_number_of p.held (locator_width p))) ≡ false) × ((held_fixed p.held && not (eqb v (held_default p.held))) ≡ false)
-  not-barred-by = neither _ _ passed
+  free : holds_no_number p ≡ false
+  free = (neither (holds_no_number p) _ passed).0
 
-  few : ltb max_bytes (locator_header p) ≡ false
-  few = (neither (ltb max_bytes (locator_header p)) (not (is_number_of p.held (locator_width p))) not-barred-by.0).0
-
-  holds : is_number_of p.held (locator_width p) ≡ true
-  holds = not-false (is_number_of p.held (locator_width p)) (neither (ltb max_bytes (locator_header p)) (not (is_number_of p.held (locator_width p))) not-barred-by.0).1
+  not-off : (held_fixed p.held && not (eqb v (held_default p.held))) ≡ false
+  not-off = (neither (holds_no_number p) _ passed).1
 
   -- the run fits: the number's size is left
-  sized : Reached p (length b) false → (large : Bool) → ltb v (2 ^ locator_width p) ≡ large
-      → let r = cond large NumberWrite.Done NumberWrite.TooLarge in
-      (number_left_at p.index r ≡ write_check_at p (length b) (number v))
-      × (after_number r b (put b (first_bit p) (locator_width p) v) ≡ after (number_left_at p.index r) (put b (first_bit p) (locator_width p) v) b)
+  sized : Reached p (length b) false → (small : Bool) → ltb v (2 ^ locator_width p) ≡ small → left_at p.index (cond small (Ok tt) (Err RunFault.TooLarge)) ≡ write_check_at p (length b) (number v)
   unfolding suit
-  sized at true e = (sym (suits p (length b) (number v) at ∙ rw (e, not-barred-by.1)), refl)
-  sized at false e = (sym (suits p (length b) (number v) at ∙ rw e), refl)
+  sized at true e = sym (suits p (length b) (number v) at ∙ rw (e, not-off))
+  sized at false e = sym (suits p (length b) (number v) at ∙ rw e)
 
-  -- what the run answers is what is owed there, and leaves what is owed
-  number-as :
-      let r = write_answer (length b) (locator_header p) (first_bit p) (locator_width p) v in
-      (number_left_at p.index r ≡ write_check_at p (length b) (number v))
-      × (after_number r b (put b (first_bit p) (locator_width p) v) ≡ after (number_left_at p.index r) (put b (first_bit p) (locator_width p) v) b)
+  -- what the run answers is what is owed there
+  number-as : left_at p.index (write_answer (length b) (locator_header p) (first_bit p) (locator_width p) v) ≡ write_check_at p (length b) (number v)
   unfolding write_answer
   number-as =
       by-fit (length b) (locator_header p) (first_bit p) (locator_width p)
-      (λ f. (number_left_at p.index (write_as f (locator_width p) v) ≡ write_check_at p (length b) (number v))
-      × (after_number (write_as f (locator_width p) v) b (put b (first_bit p) (locator_width p) v) ≡ after (number_left_at p.index (write_as f (locator_width p) v)) (put b (first_bit p) (locator_width p) v) b))
-      (λ wide. (reach-stands p (length b) (number v) (access-1 p (length b) false (λ at. omega (arith, narrow p b few holds at))), refl))
-      (λ _ past. (reach-stands p (length b) (number v) (access-1 p (length b) false (λ at. omega (arith, at.inside))), refl))
-      (λ l inside short. (reach-stands p (length b) (number v) (access-2 p (length b) false (stands p b few holds l inside) short), refl))
-      (λ l inside long. sized (record { located = stands p b few holds l inside; long = long; kind = sym (kind p b few holds) }) (ltb v (2 ^ locator_width p)) refl)
+      (λ f. left_at p.index (write_as f (locator_width p) v) ≡ write_check_at p (length b) (number v))
+      (λ wide. reach-stands p (length b) (number v) (access-1 p (length b) false (λ at. omega (arith, narrow p b free at))))
+      (λ _ past. reach-stands p (length b) (number v) (access-1 p (length b) false (λ at. omega (arith, at.inside))))
+      (λ l inside short. reach-stands p (length b) (number v) (access-2 p (length b) false (stands p b free l inside) short))
+      (λ l inside long. sized (record { located = stands p b free l inside; long = long; kind = sym (kind p b free) }) (ltb v (2 ^ locator_width p)) refl)
 
-  pub number-left : {c : List ℕ} {r : NumberWrite} {j : Verdict} → NumberWritten b c (locator_header p) (first_bit p) (locator_width p) v r → verdict_says j ≡ number_left_at p.index r
+  pub number-left : {c : List ℕ} {r : RunCheck} {j : Result (Unit {0}) Refusal} → NumberWritten b c (locator_header p) (first_bit p) (locator_width p) v r → j ≡ at_field p.index r
       → WrittenAt p b c (number v) j
-  number-left x said =
-      told-written p b (number v) (x.bytes ∙ ap (λ (r : NumberWrite). after_number r b (put b (first_bit p) (locator_width p) v)) x.answer) (said ∙ ap (number_left_at p.index) x.answer)
-      number-as
+  number-left x said = left-written p b (number v) _ x.bytes said (ap (left_at p.index) x.answer ∙ number-as)
 
   -- so a write is accepted where that of the run is done
   accepts-is : is_given (write_check_at p (length b) (number v)) ≡ is_done (write_answer (length b) (locator_header p) (first_bit p) (locator_width p) v)
-  accepts-is = ap is_given (sym number-as.0) ∙ of (write_answer (length b) (locator_header p) (first_bit p) (locator_width p) v)
+  accepts-is = ap is_given (sym number-as) ∙ of (write_answer (length b) (locator_header p) (first_bit p) (locator_width p) v)
     where
-      of : (r : NumberWrite) → is_given (number_left_at p.index r) ≡ is_done r
-      of NumberWrite.Done = refl
-      of NumberWrite.TooWide = refl
-      of NumberWrite.Outside = refl
-      of NumberWrite.Short = refl
-      of NumberWrite.TooLarge = refl
+      of : (r : RunCheck) → is_given (left_at p.index r) ≡ is_done r
+      of (Ok _) = refl
+      of (Err fault) = refl
 
   pub number-at-once : {c : List ℕ} {r : Bool} → NumberAtOnce b c (locator_header p) (first_bit p) (locator_width p) v r → WrittenAtOnce p b c v r
   unfolding apply_at
@@ -420,7 +374,7 @@ not-at-once p b v never = record { answer = rw (of (write_check_at p (length b) 
 
 -- a write at once is a write that is accepted, or none
 module _ {p : Locator} {b c : List ℕ} {v : ℕ} where
-  pub at-once-written : WrittenAtOnce p b c v true → WrittenAt p b c (number v) Verdict.Accepted
+  pub at-once-written : WrittenAtOnce p b c v true → WrittenAt p b c (number v) (Ok tt)
   at-once-written w = record { answer = of (write_check_at p (length b) (number v)) (both_hold (leb 8 (length b)) _ (sym w.answer)).1; bytes = w.bytes }
     where
       of : (x : Check) → is_given x ≡ true → accepted ≡ x
@@ -430,48 +384,41 @@ module _ {p : Locator} {b c : List ℕ} {v : ℕ} where
   pub at-once-none : WrittenAtOnce p b c v false → c ≡ b
   at-once-none w = w.bytes
 
--- and of bytes
-abbrev pub bytes_left_at : ℕ → BytesWrite → Check
-bytes_left_at i BytesWrite.Done = accepted
-bytes_left_at i BytesWrite.Outside = refused Group.Access 1 i
-bytes_left_at i BytesWrite.Short = refused Group.Access 2 i
-
 pub bytes-barred : (p : Locator) (n : ℕ) (l : List ℕ)
-    → ((ltb max_bytes (locator_header p) || not (is_bytes_of p.held (first_bit p) (locator_width p))) || not (eqb (8 * length l) (locator_width p))) ≡ true
+    → (holds_no_bytes p || not (eqb (8 * length l) (locator_width p))) ≡ true
     → write_check_at p n (bytes l) ≡ accepted → ⊥
 bytes-barred p n l e w =
     let may = (writable-is p n (bytes l)).0 w in
     ⊎_elim
     (λ first. no_bytes p n first ((reached-is p n true).1 may.reached))
     (λ other. clash (sym (eq-eqb (8 * length l) (locator_width p) may.size) ∙ not-true (eqb (8 * length l) (locator_width p)) other))
-    (one-or-other (ltb max_bytes (locator_header p) || not (is_bytes_of p.held (first_bit p) (locator_width p))) _ e)
+    (one-or-other (holds_no_bytes p) _ e)
 
-module _ (p : Locator) (b l : List ℕ) where
-  module _ (few : ltb max_bytes (locator_header p) ≡ false) (holds : is_bytes_of p.held (first_bit p) (locator_width p) ≡ true) (counted : eqb (8 * length l) (locator_width p) ≡ true) where
-    are-bytes : held_is_bytes p.held ≡ true
-    are-bytes = bytes-kind p.held (first_bit p) (locator_width p) holds
+module _ (p : Locator) (b l : List ℕ) (free : holds_no_bytes p ≡ false) (counted : eqb (8 * length l) (locator_width p) ≡ true) where
+  -- the bytes start on a byte boundary, and are as many as the run has
+  from : 8 * (first_bit p / 8) ≡ first_bit p
+  from = omega (arith, whole p b free)
 
-    -- the bytes start on a byte boundary, and are as many as the run has
-    from : 8 * (first_bit p / 8) ≡ first_bit p
-    from = omega (arith, bytes_whole p.held (first_bit p) (locator_width p) holds)
+  count : 8 * length l ≡ locator_width p
+  count = eqb-true (8 * length l) (locator_width p) counted
 
-    count : 8 * length l ≡ locator_width p
-    count = eqb-true (8 * length l) (locator_width p) counted
+  stand : first_bit p / 8 + length l ≤ locator_header p → Located p
+  stand inside = bytes-stand p b free (omega (arith, from, count))
 
-    -- in the header, they are accepted: bytes are never fixed
-    counted-accepted : Reached p (length b) true → write_check_at p (length b) (bytes l) ≡ accepted
-    counted-accepted at = (writable-is p (length b) (bytes l)).1 (record { reached = at; size = count; free = λ e. clash (sym e ∙ never-fixed p.held are-bytes) })
+  -- in the header, they are accepted: bytes are never fixed
+  counted-accepted : Reached p (length b) true → write_check_at p (length b) (bytes l) ≡ accepted
+  counted-accepted at = (writable-is p (length b) (bytes l)).1 (record { reached = at; size = count; free = λ e. clash (sym e ∙ never-fixed p.held (are-bytes p b free)) })
 
-    pub bytes_left : {c : List ℕ} {r : BytesWrite} {j : Verdict} → BytesWritten b c (locator_header p) (first_bit p / 8) (length l) (spelled l) r → verdict_says j ≡ bytes_left_at p.index r
-        → WrittenAt p b c (bytes l) j
-    bytes_left x said =
-        told-written p b (bytes l) (x.bytes ∙ ap (λ (r : BytesWrite). after_bytes r b (put b (8 * (first_bit p / 8)) (8 * length l) (spelled l))) x.answer ∙ rw (from, count)) (said ∙ ap (bytes_left_at p.index) x.answer)
-        (by_place (length b) (locator_header p) (first_bit p / 8) (length l)
-        (λ (r : BytesWrite). (bytes_left_at p.index r ≡ write_check_at p (length b) (bytes l))
-        × (after_bytes r b (put b (first_bit p) (locator_width p) (spelled l)) ≡ after (bytes_left_at p.index r) (put b (first_bit p) (locator_width p) (spelled l)) b))
-        (λ past. (reach-stands p (length b) (bytes l) (access-1 p (length b) true (λ at. omega (arith, at.inside, from, count))), refl))
-        (λ inside short. (reach-stands p (length b) (bytes l) (access-2 p (length b) true (bytes-stand p b few holds (omega (arith, from, count))) short), refl))
-        (λ inside long. (sym (counted-accepted (record { located = bytes-stand p b few holds (omega (arith, from, count)); long = long; kind = sym are-bytes })), refl)))
+  pub bytes_left : {c : List ℕ} {r : RunCheck} {j : Result (Unit {0}) Refusal} → BytesWritten b c (locator_header p) (first_bit p / 8) (length l) (spelled l) r → j ≡ at_field p.index r
+      → WrittenAt p b c (bytes l) j
+  bytes_left x said =
+      left-written p b (bytes l) _ (x.bytes ∙ ap (after_write _ b) (ap (λ (s : ℕ). put b s (8 * length l) (spelled l)) from ∙ ap (λ (w : ℕ). put b (first_bit p) w (spelled l)) count)) said
+      (ap (left_at p.index) x.answer
+      ∙ by_place (length b) (locator_header p) (first_bit p / 8) (length l)
+      (λ (r : RunCheck). left_at p.index r ≡ write_check_at p (length b) (bytes l))
+      (λ past. reach-stands p (length b) (bytes l) (access-1 p (length b) true (λ at. omega (arith, at.inside, from, count))))
+      (λ inside short. reach-stands p (length b) (bytes l) (access-2 p (length b) true (stand inside) short))
+      (λ inside long. sym (counted-accepted (record { located = stand inside; long = long; kind = sym (are-bytes p b free) }))))
 
 -- bytes are never fixed, so that access 4 is the last to be asked of them
 pub bytes-judged : (p : Locator) (n : ℕ) (l : List ℕ) → (reach_at p n true and_then refuse (not (eqb (8 * length l) (locator_width p))) Group.Access 4 p.index) ≡ write_check_at p n (bytes l)
@@ -487,11 +434,11 @@ bytes-judged p n l = by_answer (reach_at p n true) refl
 
 -- ---- one answer
 
-pub number-answer-one : (q r : NumberAnswer) → number_answer_says q ≡ number_answer_says r → q ≡ r
-number-answer-one (NumberAnswer.Is x) (NumberAnswer.Is y) e = cc
-number-answer-one (NumberAnswer.Is x) (NumberAnswer.Refused r) e = cc
-number-answer-one (NumberAnswer.Refused q) (NumberAnswer.Is y) e = cc
-number-answer-one (NumberAnswer.Refused q) (NumberAnswer.Refused r) e = ap NumberAnswer.Refused (refusal-one q r e)
+pub number-answer-one : (q r : Result ℕ Refusal) → number_answer_says q ≡ number_answer_says r → q ≡ r
+number-answer-one (Ok x) (Ok y) e = cc
+number-answer-one (Ok x) (Err r) e = cc
+number-answer-one (Err q) (Ok y) e = cc
+number-answer-one (Err q) (Err r) e = ap Err (refusal-one q r e)
 
-pub written_one : {p : Locator} {b c d : List ℕ} {v : Value} {q r : Verdict} → WrittenAt p b c v q → WrittenAt p b d v r → (q ≡ r) × (c ≡ d)
-written_one {q = q} {r} x y = (verdict-one q r (x.answer ∙ sym y.answer), x.bytes ∙ sym y.bytes)
+pub written_one : {p : Locator} {b c d : List ℕ} {v : Value} {q r : Result (Unit {0}) Refusal} → WrittenAt p b c v q → WrittenAt p b d v r → (q ≡ r) × (c ≡ d)
+written_one {q = q} {r} x y = (says-one q r (x.answer ∙ sym y.answer), x.bytes ∙ sym y.bytes)

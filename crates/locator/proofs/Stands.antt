@@ -15,7 +15,7 @@ use lib.Pow.{pow_pos}
 use borrow.Author.Tests.{le-leb, lt-ltb, eq-eqb, leb-true, ltb-true}
 use Rattle.answer.proofs.Tests.{clash, both_hold}
 use Rattle.bits.specs.Bits.{touched}
-use Rattle.layout.specs.Layout.{HeaderField, field, bits, start, width, GoodField, Good}
+use Rattle.layout.specs.Layout.{HeaderField, field, bits, start, GoodField, Good}
 use Rattle.layout.proofs.Starts.{within}
 use Rattle.locator.specs.declared.Held.{Held}
 use Rattle.locator.specs.declared.Locator.{Locator}

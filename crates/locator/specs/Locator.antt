@@ -1,11 +1,10 @@
 -- Reads and writes at the locator of a field. A locator is a value that anyone can make up, so access 1 to 5 are stated here of any; `access` shows
 -- that at the locators of an accepted sheet they are those of its fields. Assumes nothing.
-use Rattle.std.specs.Prelude.{◌≡◌, Bool, true, false, cond, not, ◌&&◌, List, [], ℕ, ◌+◌, ◌*◌, ◌%◌, ◌^◌, leb, ltb, eqb, length}
+use Rattle.std.specs.Prelude.{◌≡◌, Bool, true, false, cond, not, ◌&&◌, List, [], ℕ, ◌+◌, ◌*◌, ◌%◌, ◌^◌, leb, ltb, eqb, length, Option, None, Some, Result, Ok, Err}
 use Rattle.std.specs.Bool.{beq}
-use Rattle.answer.specs.declared.Verdict.{Verdict}
-use Rattle.answer.specs.Paper.{Answer, gives, refused, Check, is_given, refusal_says, verdict_says, ◌and_then◌}
+use Rattle.answer.specs.declared.Refusal.{Refusal}
+use Rattle.answer.specs.Paper.{Answer, gives, refused, Check, is_given, refusal_says, says, ◌and_then◌}
 use Rattle.number.specs.Numbers.{max_bytes}
-use Rattle.bits.specs.declared.NumberSeen.{NumberSeen}
 use Rattle.bits.specs.Bits.{touched}
 use Rattle.bits.specs.Positions.{global_of}
 use Rattle.bits.specs.Writes.{put}
@@ -13,7 +12,6 @@ use Rattle.layout.specs.Layout.{HeaderField}
 use Rattle.layout.specs.Access.{Value, number, bytes, of_bytes, spells, reach_by, suit, run_value, after}
 use Rattle.locator.specs.declared.Held.{Held}
 use Rattle.locator.specs.declared.Locator.{Locator}
-use Rattle.locator.specs.declared.NumberAnswer.{NumberAnswer}
 
 -- ---- a locator: its header's bytes, its first bit and its width in bits, and what it holds
 
@@ -21,10 +19,10 @@ abbrev pub locator_header : Locator → ℕ
 locator_header p = p.header.0
 
 abbrev pub first_bit : Locator → ℕ
-first_bit p = global_of p.start
+first_bit p = global_of p.run.start
 
 abbrev pub locator_width : Locator → ℕ
-locator_width p = p.width.0
+locator_width p = p.run.width.0
 
 abbrev pub held_is_bytes : Held → Bool
 held_is_bytes (Held.Number default fixed) = false
@@ -79,19 +77,19 @@ unfoldable pub read_at : Locator → List ℕ → Bool → Answer Value
 read_at p b as_bytes = reach_at p (length b) as_bytes and_then gives (run_value b as_bytes (first_bit p) (locator_width p))
 
 -- a read at once gives the number where there is one and the buffer has 8 bytes
-abbrev pub seen_of : Answer Value → NumberSeen
-seen_of (gives (number v)) = NumberSeen.Is v
-seen_of (gives (bytes l)) = NumberSeen.None
-seen_of (refused g n at) = NumberSeen.None
+abbrev pub seen_of : Answer Value → Option ℕ
+seen_of (gives (number v)) = Some v
+seen_of (gives (bytes l)) = None
+seen_of (refused g n at) = None
 
-abbrev pub seen_at : Locator → List ℕ → NumberSeen
-seen_at p b = cond (leb 8 (length b)) (seen_of (read_at p b false)) NumberSeen.None
+abbrev pub seen_at : Locator → List ℕ → Option ℕ
+seen_at p b = cond (leb 8 (length b)) (seen_of (read_at p b false)) None
 
 unfoldable pub apply_at : Locator → List ℕ → Value → List ℕ
 apply_at p b v = after (write_check_at p (length b) v) (put b (first_bit p) (locator_width p) (spells v)) b
 
-pub record WrittenAt (p : Locator) (b b' : List ℕ) (v : Value) (r : Verdict) : Type 0 where
-  pub answer : verdict_says r ≡ write_check_at p (length b) v
+pub record WrittenAt (p : Locator) (b b' : List ℕ) (v : Value) (r : Result (Unit {0}) Refusal) : Type 0 where
+  pub answer : says r ≡ write_check_at p (length b) v
   pub bytes : b' ≡ apply_at p b v
 
 -- a write at once is done where the write is accepted and the buffer has 8 bytes
@@ -101,9 +99,9 @@ pub record WrittenAtOnce (p : Locator) (b b' : List ℕ) (v : ℕ) (r : Bool) : 
 
 -- ---- what the program's answers say
 
-abbrev pub number_answer_says : NumberAnswer → Answer Value
-number_answer_says (NumberAnswer.Is v) = gives (number v)
-number_answer_says (NumberAnswer.Refused r) = refusal_says r
+abbrev pub number_answer_says : Result ℕ Refusal → Answer Value
+number_answer_says (Ok v) = gives (number v)
+number_answer_says (Err r) = refusal_says r
 
 -- a read of bytes gives them, and an empty part where it is refused
 abbrev pub part_of : Answer Value → List ℕ

@@ -1,7 +1,7 @@
 -- Laws of the counts and of the largest value: each case of a definition, and what the limits and the largest value amount to. Assumes nothing.
 use mathlib.Core.Path.{◌≡◌, refl, sym, ap, ◌∙◌}
 use mathlib.Core.Bool.{true, or-true}
-use mathlib.Core.Option.{none, some}
+use Rattle.std.specs.Prelude.{Option, None, Some}
 use Prim.Native.Nat.{ℕ, ◌+◌, ◌-◌, ◌*◌, ◌/◌, ◌^◌, ◌≤◌, ◌<◌}
 use native.Mathlib.Nat.{mod-lt, lt_of_lt_of_le, div-eq_of_lt}
 use native.Mathlib.Omega.{arith}
@@ -10,14 +10,10 @@ use lib.Pow.{ones_split, ones_lt, high, pow_pos, pow_mono, split}
 use borrow.Author.Tests.{ltb-true, eqb-true, lt-ltb, le-ltb, eq-eqb, ne_eqb}
 use Rattle.answer.specs.declared.Group.{Group}
 use Rattle.answer.specs.Paper.{gives, refused}
-use Rattle.answer.proofs.OneToOne.{refusal-one}
 use Rattle.answer.proofs.Tests.{same_test}
 use Rattle.number.specs.declared.Bits.{Bits}
 use Rattle.number.specs.declared.Bytes.{Bytes}
-use Rattle.number.specs.declared.InBits.{InBits}
-use Rattle.number.specs.declared.MaxValue.{MaxValue}
-use Rattle.number.specs.declared.ByteVal.{ByteVal}
-use Rattle.number.specs.Numbers.{max_bits, max_bytes, in_bits, max_value, byte_val, in_bits_says, max_value_says, byte_val_says}
+use Rattle.number.specs.Numbers.{max_bits, max_bytes, in_bits, max_value, byte_val, in_bits_says}
 
 -- the limits as the constants have them; that in bytes is the largest number of 22 bits
 limit-in-bits : max_bits ≡ 33554424
@@ -28,25 +24,25 @@ limit-in-bytes = omega arith
 
 -- ---- a byte count in bits
 
-pub in-bits : (n : ℕ) → n < 2 ^ 61 → in_bits n ≡ some (8 * n)
+pub in-bits : (n : ℕ) → n < 2 ^ 61 → in_bits n ≡ Some (8 * n)
 unfolding in_bits
 in-bits n h = simp (lt-ltb (8 * n) (2 ^ 64) (omega arith))
 
-pub not-in-bits : (n : ℕ) → 2 ^ 61 ≤ n → in_bits n ≡ none
+pub not-in-bits : (n : ℕ) → 2 ^ 61 ≤ n → in_bits n ≡ None
 unfolding in_bits
 not-in-bits n h = simp (le-ltb (8 * n) (2 ^ 64) (omega arith))
 
 -- ---- the largest value of a width
 
-pub no-max-zero : (w : ℕ) → w ≡ 0 → max_value w ≡ none
+pub no-max-zero : (w : ℕ) → w ≡ 0 → max_value w ≡ None
 unfolding max_value
 no-max-zero w h = simp (eq-eqb w 0 h)
 
-pub no-max-wide : (w : ℕ) → 64 < w → max_value w ≡ none
+pub no-max-wide : (w : ℕ) → 64 < w → max_value w ≡ None
 unfolding max_value
 no-max-wide w h = simp (lt-ltb 64 w h, or-true)
 
-pub max-is : (w : ℕ) → (w ≡ 0 → ⊥) → w ≤ 64 → max_value w ≡ some (2 ^ w - 1)
+pub max-is : (w : ℕ) → (w ≡ 0 → ⊥) → w ≤ 64 → max_value w ≡ Some (2 ^ w - 1)
 unfolding max_value
 max-is w n h = simp (ne_eqb w 0 n, le-ltb 64 w h)
 
@@ -90,20 +86,8 @@ bits-one a b e = ap (λ (n : ℕ). record { 0 = n }) e
 pub bytes_one : (a b : Bytes) → a.0 ≡ b.0 → a ≡ b
 bytes_one a b e = ap (λ (n : ℕ). record { 0 = n }) e
 
-pub count-one : (a b : InBits) → in_bits_says a ≡ in_bits_says b → a ≡ b
-count-one (InBits.Count a) (InBits.Count b) e = ap InBits.Count (bits-one a b cc)
-count-one (InBits.Count a) InBits.None e = cc
-count-one InBits.None (InBits.Count b) e = cc
-count-one InBits.None InBits.None e = refl
-
-pub value-one : (a b : MaxValue) → max_value_says a ≡ max_value_says b → a ≡ b
-value-one (MaxValue.Is v) (MaxValue.Is u) e = cc
-value-one (MaxValue.Is v) MaxValue.None e = cc
-value-one MaxValue.None (MaxValue.Is u) e = cc
-value-one MaxValue.None MaxValue.None e = refl
-
-pub byte_one : (a b : ByteVal) → byte_val_says a ≡ byte_val_says b → a ≡ b
-byte_one (ByteVal.Byte x) (ByteVal.Byte y) e = cc
-byte_one (ByteVal.Byte x) (ByteVal.Refused s) e = cc
-byte_one (ByteVal.Refused r) (ByteVal.Byte y) e = cc
-byte_one (ByteVal.Refused r) (ByteVal.Refused s) e = ap ByteVal.Refused (refusal-one r s e)
+pub count-one : (a b : Option Bits) → in_bits_says a ≡ in_bits_says b → a ≡ b
+count-one (Some a) (Some b) e = ap (λ (x : Bits). Some x) (bits-one a b cc)
+count-one (Some a) None e = cc
+count-one None (Some b) e = cc
+count-one None None e = refl

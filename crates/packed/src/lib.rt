@@ -1,33 +1,39 @@
-// What the programs that read stored files share: the tally of their answers, numbers of two bytes, and packed texts. A packed text is runs of bytes, each after
+// What the programs that read stored files share: the tally of their answers, answers as the files have them, numbers of two bytes, and packed texts. A packed text is runs of bytes, each after
 // a gap. A run is 2 bytes for the gap, big-endian, which is how many zeros stand before it; 1 byte for its count; and as many bytes. A text is unpacked over
 // zeros, whole or in pieces.
 #![tactic(auto)]
 
+mod stored;
 mod tally;
 
-ghost use Rattle.std.specs.Prelude.{◌≡◌, ◌^◌, ◌<◌, ◌≤◌};
+ghost use Rattle.std.specs.Prelude.{◌≡◌, ◌+◌, ◌^◌, ◌<◌, ◌≤◌, length};
 ghost use Rattle.octets.specs.Octets.{be};
 
+use octets::{be16, byte_at, part};
+pub use stored::{Stored, answer_in};
 pub use tally::Tally;
 
 // A number of two bytes.
 pub fn two(b: &[u8], at: usize) -> usize
     ensures { (result ≡ be b.now at 2) × (result ≤ 65535) }
 {
-    octets::be16(b, at) as usize
+    usize::from(be16(b, at))
 }
 
 // No text is longer unpacked.
 const LONGEST: usize = 4294967296;
 
-// Sets byte `at` of a text in a piece of it that begins at byte `first`, where the piece has it.
-fn put(piece: &mut [u8], first: usize, at: usize, b: u8) {
-    if at < first {
-        return;
-    }
-    let i = at - first;
-    if i < piece.len() {
-        piece[i] = b;
+// Sets the bytes of a text from byte `at` on in a piece of it that begins at byte `first`, as far as the piece has them.
+fn put(piece: &mut [u8], first: usize, at: usize, run: &[u8])
+    requires { at + length run.now < 2 ^ 64 }
+{
+    for (i, b) in run.iter().enumerate() {
+        let Some(k) = (at + i).checked_sub(first) else {
+            continue;
+        };
+        if k < piece.len() {
+            piece[k] = *b;
+        }
     }
 }
 
@@ -35,23 +41,14 @@ fn put(piece: &mut [u8], first: usize, at: usize, b: u8) {
 pub fn unpack(packed: &[u8], first: usize, piece: &mut [u8]) -> usize
     ensures { result < 2 ^ 33 }
 {
-    let mut from: usize = 0;
-    let mut to: usize = 0;
-    let mut left: u8 = 0;
-    while from < packed.len() {
-        if LONGEST < to {
-            return to;
-        }
-        if left == 0 {
-            to += octets::be16(packed, from) as usize;
-            left = octets::byte_at(packed, from + 2);
-            from += 3;
-        } else {
-            put(piece, first, to, packed[from]);
-            to += 1;
-            left -= 1;
-            from += 1;
-        }
+    let mut left = packed;
+    let mut to = 0;
+    while !left.is_empty() && to <= LONGEST {
+        to += two(left, 0);
+        let count = usize::from(byte_at(left, 2));
+        put(piece, first, to, part(left, 3, 3 + count));
+        to += count;
+        left = part(left, 3 + count, left.len());
     }
-    to + left as usize
+    to
 }

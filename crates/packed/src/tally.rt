@@ -3,10 +3,9 @@ ghost use Rattle.std.specs.Prelude.{◌≡◌};
 ghost use Rattle.text.specs.Output.{emit};
 ghost use Rattle.packed.specs.Counted.{counted, counts_text, first_text, tally_text};
 
-use std::num::wrapping_add_u64;
-use text::{Cursor, put_bytes, put_decimal};
+use text::{put_bytes, put_decimal};
 
-#[derive(Clone, Copy)]
+#[derive(Clone, Copy, Debug, PartialEq, Eq)]
 pub struct Tally {
     right: u64,
     wrong: u64,
@@ -26,23 +25,22 @@ impl Tally {
     {
         if right {
             return Tally {
-                right: wrapping_add_u64(self.right, 1),
-                wrong: self.wrong,
-                first: self.first,
+                right: self.right.wrapping_add(1),
+                ..self
             };
         }
         Tally {
-            right: self.right,
-            wrong: wrapping_add_u64(self.wrong, 1),
+            wrong: self.wrong.wrapping_add(1),
             first: if self.wrong == 0 {
                 self.right
             } else {
                 self.first
             },
+            ..self
         }
     }
 
-    fn put_counts(self, out: &mut [u8], to: Cursor) -> Cursor
+    fn put_counts(self, out: &mut [u8], to: Option<usize>) -> Option<usize>
         ensures { (out.new, result) ≡ emit (counts_text self) (out.old, to) }
     {
         let p = put_decimal(out, to, self.right);
@@ -51,7 +49,7 @@ impl Tally {
         put_bytes(out, p, b" wrong\n")
     }
 
-    fn put_first(self, out: &mut [u8], to: Cursor) -> Cursor
+    fn put_first(self, out: &mut [u8], to: Option<usize>) -> Option<usize>
         ensures { (out.new, result) ≡ emit (first_text self) (out.old, to) }
     {
         let p = put_decimal(out, to, self.first);
@@ -59,7 +57,7 @@ impl Tally {
     }
 
     // A line, with a title in front; and where something is wrong, one more that names the first such answer by its number, counted from 0.
-    pub fn put(self, out: &mut [u8], to: Cursor, title: &[u8]) -> Cursor
+    pub fn put(self, out: &mut [u8], to: Option<usize>, title: &[u8]) -> Option<usize>
         ensures { (out.new, result) ≡ emit (tally_text title.now self) (out.old, to) }
     {
         let p = put_bytes(out, to, title);

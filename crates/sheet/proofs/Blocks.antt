@@ -1,5 +1,5 @@
 -- Laws of the blocks of a sheet: how long one is, that it is bytes, and the counts of kinds, block by block. Assumes nothing.
-use mathlib.Core.Path.{◌≡◌, refl, ◌∙◌}
+use mathlib.Core.Path.{◌≡◌, ◌∙◌}
 use mathlib.Core.Bool.{Bool, true, false, cond}
 use mathlib.Core.List.{List, []}
 use Prim.Native.Nat.{ℕ, zero, suc, ◌+◌, ◌*◌, ◌≤◌, ◌<◌}
@@ -10,11 +10,10 @@ use lib.ListN.{length}
 use lib.Seq.{slice, length-slice}
 use borrow.Author.Tests.{lt-ltb}
 use Rattle.sheet.specs.declared.Counts.{Counts}
-use Rattle.sheet.specs.declared.SlotBlock.{SlotBlock}
 use Rattle.octets.specs.Octets.{AreBytes}
 use Rattle.octets.proofs.Octets.{bytes-slice}
 use Rattle.blocks.specs.Layout.{block_size, kind_of, is_f, is_l, is_c}
-use Rattle.sheet.specs.Blocks.{block_count, block_at, count, counts_of, slot_block_says}
+use Rattle.sheet.specs.Blocks.{block_count, block_at, count, counts_of}
 use Rattle.sheet.specs.Working.{counted}
 
 -- a block is whole
@@ -43,9 +42,9 @@ module _ (s : List ℕ) where
   count-le is_kind zero = lit≤ tt
   count-le is_kind (suc i) = omega (arith, count-le is_kind i, one-le (is_kind (kind_of (block_at s i))))
 
-  pub counts-none : counts_of s 0 ≡ record { fields = 0; lengths = 0; conds = 0 }
+  pub counts-none : {c : Counts} → (c.fields ≡ 0) × ((c.lengths ≡ 0) × (c.conds ≡ 0)) → c ≡ counts_of s 0
   unfolding count
-  counts-none = refl
+  counts-none p = rw (p.0, p.1.0, p.1.1)
 
   pub counts-more : (i : ℕ) {before : Counts} {kind : ℕ} → before ≡ counts_of s i → kind ≡ kind_of (block_at s i) → counted before kind ≡ counts_of s (i + 1)
   unfolding count
@@ -53,10 +52,3 @@ module _ (s : List ℕ) where
 
   pub counts-le : (i : ℕ) {c : Counts} → c ≡ counts_of s i → (c.fields ≤ i) × (c.lengths ≤ i) × (c.conds ≤ i)
   counts-le i e = rw e (count-le is_f i, count-le is_l i, count-le is_c i)
-
--- one answer: what the program's answer says of a slot tells answers apart
-pub slot-one : (p q : SlotBlock) → slot_block_says p ≡ slot_block_says q → p ≡ q
-slot-one (SlotBlock.At i) (SlotBlock.At j) e = cc
-slot-one (SlotBlock.At i) SlotBlock.None e = cc
-slot-one SlotBlock.None (SlotBlock.At j) e = cc
-slot-one SlotBlock.None SlotBlock.None e = refl

@@ -1,10 +1,9 @@
 -- The blocks of a sheet: which bytes are block i, how many blocks there are of each kind, and the block of a length slot. Assumes nothing.
 use Rattle.std.specs.Prelude.{Bool, cond, ◌&&◌, List, [], ℕ, zero, suc, ◌+◌, ◌*◌, ◌/◌, ltb, eqb, length}
-use Rattle.std.proofs.Math.Option.{Option, none, some}
+use Rattle.std.specs.Prelude.{Option}
 use Rattle.std.proofs.Math.Seq.{slice}
 use Rattle.blocks.specs.Layout.{block_size, kind_of, is_f, is_l, is_c, stated_slot}
 use Rattle.sheet.specs.declared.Counts.{Counts}
-use Rattle.sheet.specs.declared.SlotBlock.{SlotBlock}
 use Rattle.answer.specs.Walk.{first_where}
 
 -- how many whole blocks
@@ -47,8 +46,3 @@ is_slot slot b = is_l (kind_of b) && eqb (stated_slot b) slot
 -- the first of the first n blocks that gives a slot
 abbrev pub slot_block : List ℕ → ℕ → ℕ → Option ℕ
 slot_block s slot n = first_where (λ i. is_slot slot (block_at s i)) n
-
--- what the program's answer says
-abbrev pub slot_block_says : SlotBlock → Option ℕ
-slot_block_says (SlotBlock.At i) = some i
-slot_block_says SlotBlock.None = none

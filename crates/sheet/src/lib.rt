@@ -1,30 +1,22 @@
 // Sheets: 0 to 99 blocks, F for fields, L for lengths, C for conditions. What a sheet holds, and step 1: which bytes are a sheet.
 #![tactic(auto)]
 
-ghost use Rattle.std.specs.Prelude.{◌≡◌, cond, ◌≤◌, ◌<◌, ◌^◌};
-ghost use Rattle.answer.specs.declared.Group.{Group};
-ghost use Rattle.answer.specs.Paper.{sheet_number, verdict_says, refuse as refused_if};
-ghost use Rattle.sheet.specs.Blocks.{block_count, block_at, counts_of, is_slot, slot_block, slot_block_says};
+ghost use Rattle.std.specs.Prelude.{◌≡◌, ◌<◌, ◌^◌};
+ghost use Rattle.answer.specs.Paper.{says};
+ghost use Rattle.sheet.specs.Blocks.{block_count, block_at, counts_of, is_slot, slot_block};
 ghost use Rattle.sheet.specs.Sheet.{slot_before, block_fault, sheet_check};
 ghost use Rattle.sheet.specs.Working.{counted, misplaced_after, too_many_after};
 
-use answer::{Refusal, SheetFault, Verdict};
+use answer::{Refusal, SheetFault, refuse};
 use blocks::check::check_holds;
 use blocks::{kind, layout_holds, stated_slot};
 
 // How many blocks there are of each kind.
-#[derive(Clone, Copy)]
+#[derive(Clone, Copy, Debug, Default, PartialEq, Eq)]
 pub struct Counts {
     pub fields: usize,
     pub lengths: usize,
     pub conds: usize,
-}
-
-// The block that gives a length slot, if one does.
-#[derive(Clone, Copy)]
-pub enum SlotBlock {
-    At(usize),
-    None,
 }
 
 // How many whole blocks there are.
@@ -45,28 +37,16 @@ pub fn block(s: &[u8], i: usize) -> &[u8]
     }
 }
 
-fn one(test: bool) -> usize
-    ensures { (result ≡ cond test 1 0) × (result ≤ 1) }
-{
-    if test { 1 } else { 0 }
-}
-
 impl Counts {
-    const NONE: Counts = Counts {
-        fields: 0,
-        lengths: 0,
-        conds: 0,
-    };
-
     // With one block more, of this kind.
     fn with(self, kind: u8) -> Counts
         requires { (self.fields < 2 ^ 63) × (self.lengths < 2 ^ 63) × (self.conds < 2 ^ 63) }
         ensures { result ≡ counted self kind }
     {
         Counts {
-            fields: self.fields + one(kind == b'F'),
-            lengths: self.lengths + one(kind == b'L'),
-            conds: self.conds + one(kind == b'C'),
+            fields: self.fields + usize::from(kind == b'F'),
+            lengths: self.lengths + usize::from(kind == b'L'),
+            conds: self.conds + usize::from(kind == b'C'),
         }
     }
 }
@@ -75,11 +55,9 @@ impl Counts {
 pub fn block_counts(s: &[u8]) -> Counts
     ensures { result ≡ counts_of s.now (block_count s.now) }
 {
-    let mut all = Counts::NONE;
-    let mut i = 0;
-    while i < s.len() / blocks::SIZE {
+    let mut all = Counts::default();
+    for i in 0..block_count(s) {
         all = all.with(kind(block(s, i)));
-        i += 1;
     }
     all
 }
@@ -92,24 +70,22 @@ fn gives_slot(b: &[u8], slot: u8) -> bool
 }
 
 // The first of the first n blocks that gives a slot.
-fn slot_among(s: &[u8], slot: u8, n: usize) -> SlotBlock
-    ensures { slot_block_says result ≡ slot_block s.now slot n }
+fn slot_among(s: &[u8], slot: u8, n: usize) -> Option<usize>
+    ensures { result ≡ slot_block s.now slot n }
 {
-    let mut i = 0;
-    while i < n {
+    for i in 0..n {
         if gives_slot(block(s, i), slot) {
-            return SlotBlock::At(i);
+            return Some(i);
         }
-        i += 1;
     }
-    SlotBlock::None
+    None
 }
 
-// The block that gives a slot.
-pub fn slot_block(s: &[u8], slot: u8) -> SlotBlock
-    ensures { slot_block_says result ≡ slot_block s.now slot (block_count s.now) }
+// The block that gives a slot, if one does.
+pub fn slot_block(s: &[u8], slot: u8) -> Option<usize>
+    ensures { result ≡ slot_block s.now slot (block_count s.now) }
 {
-    slot_among(s, slot, s.len() / blocks::SIZE)
+    slot_among(s, slot, block_count(s))
 }
 
 // Whether a kind is unknown, or one that had to come before a block that stands before it.
@@ -133,58 +109,47 @@ fn slot_before(s: &[u8], i: usize) -> bool
     ensures { result ≡ slot_before s.now i }
 {
     let b = block(s, i);
-    if kind(b) != b'L' {
-        return false;
-    }
-    match slot_among(s, stated_slot(b), i) {
-        SlotBlock::At(_) => true,
-        SlotBlock::None => false,
-    }
-}
-
-// Block i refused for this reason where the test holds.
-fn refuse(test: bool, fault: SheetFault, i: usize) -> Verdict
-    ensures { verdict_says result ≡ refused_if test Group.Sheet (sheet_number fault) i }
-{
-    Verdict::refuse(test, Refusal::Sheet(fault, i))
+    (kind(b) == b'L') & slot_among(s, stated_slot(b), i).is_some()
 }
 
 // Sheet 2 to 6 of block i, where so many blocks of each kind stand before it.
-fn block_fault(s: &[u8], i: usize, before: Counts) -> Verdict
+#[tactic(auto, unfolding(crate::specs::Sheet::block_fault))]
+fn block_fault(s: &[u8], i: usize, before: Counts) -> Result<(), Refusal>
     requires { before ≡ counts_of s.now i }
-    ensures { verdict_says result ≡ block_fault s.now i }
+    ensures { says result ≡ block_fault s.now i }
 {
     let b = block(s, i);
     let kind = kind(b);
-    let check = refuse(!check_holds(b), SheetFault::BadCheck, i);
-    let order = refuse(
+    refuse(!check_holds(b), Refusal::Sheet(SheetFault::BadCheck, i))?;
+    refuse(
         misplaced(kind, before),
-        SheetFault::UnknownOrMisplacedKind,
-        i,
-    );
-    let count = refuse(too_many(kind, before), SheetFault::TooManyOfAKind, i);
-    let bytes = refuse(!layout_holds(b), SheetFault::ByteOutsideLayout, i);
-    let slot = refuse(slot_before(s, i), SheetFault::SlotGivenTwice, i);
-    check.and_then(order.and_then(count.and_then(bytes.and_then(slot))))
+        Refusal::Sheet(SheetFault::UnknownOrMisplacedKind, i),
+    )?;
+    refuse(
+        too_many(kind, before),
+        Refusal::Sheet(SheetFault::TooManyOfAKind, i),
+    )?;
+    refuse(
+        !layout_holds(b),
+        Refusal::Sheet(SheetFault::ByteOutsideLayout, i),
+    )?;
+    refuse(
+        slot_before(s, i),
+        Refusal::Sheet(SheetFault::SlotGivenTwice, i),
+    )
 }
 
 // Step 1: the answer on any bytes.
-pub fn check(s: &[u8]) -> Verdict
-    ensures { verdict_says result ≡ sheet_check s.now }
+pub fn check(s: &[u8]) -> Result<(), Refusal>
+    ensures { says result ≡ sheet_check s.now }
 {
-    let n = s.len() / blocks::SIZE;
-    if (s.len() % blocks::SIZE != 0) | (99 < n) {
-        return Verdict::Refused(Refusal::Sheet(SheetFault::WrongLength, 0));
-    }
-    let mut before = Counts::NONE;
-    let mut i = 0;
-    while i < n {
-        let v = block_fault(s, i, before);
-        if let Verdict::Refused(_) = v {
-            return v;
-        }
+    let n = block_count(s);
+    let wrong = (s.len() % blocks::SIZE != 0) | (99 < n);
+    refuse(wrong, Refusal::Sheet(SheetFault::WrongLength, 0))?;
+    let mut before = Counts::default();
+    for i in 0..n {
+        block_fault(s, i, before)?;
         before = before.with(kind(block(s, i)));
-        i += 1;
     }
-    Verdict::Accepted
+    Ok(())
 }

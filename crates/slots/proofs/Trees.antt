@@ -4,7 +4,7 @@ use mathlib.Core.Path.{◌≡◌, refl}
 use mathlib.Core.Bool.{true}
 use mathlib.Core.List.{List}
 use mathlib.Core.Logic.{⊎_elim, ◌↔◌}
-use mathlib.Core.Option.{none}
+use Rattle.std.specs.Prelude.{None}
 use Prim.Native.Nat.{ℕ, zero, suc, ◌≤◌, ◌<◌}
 use native.Mathlib.Nat.{eq-or-lt_of_le}
 use native.Mathlib.Omega.{arith}
@@ -59,7 +59,7 @@ module _ (b : List ℕ) where
   pub root-has-tree : tree_layout b ≡ true → TreeAt (root_in b)
   root-has-tree ok = let told = tree-told b ok in all-have-trees (node_count b) told.most told.nodes (root_in b) (omega (arith, told.some))
 
-  pub no-form-is : tree_layout b ≡ true → (tree_in b ≡ none) ↔ ((t : AlgExpr) × HasTree b t × ((e : UsableAlgExpr) → IsForm t e → ⊥))
+  pub no-form-is : tree_layout b ≡ true → (tree_in b ≡ None) ↔ ((t : AlgExpr) × HasTree b t × ((e : UsableAlgExpr) → IsForm t e → ⊥))
   no-form-is ok =
       let root = root-has-tree ok in
       let of_Tree = no-form (nodes_in b) (nodes_in b (root_in b)) in

@@ -1,6 +1,6 @@
 -- The expression of an L block, and what a length slot of a sheet holds. Assumes nothing.
 use Rattle.std.specs.Prelude.{Bool, true, false, cond, ◌&&◌, List, ℕ, ◌-◌, ltb, eqb}
-use Rattle.std.proofs.Math.Option.{Option, none, some}
+use Rattle.std.specs.Prelude.{Option, None, Some}
 use Rattle.blocks.specs.declared.nodes.Node.{Node}
 use Rattle.blocks.specs.Layout.{kind_of, is_l, stated_form, first_number, second_number, tree_form, node_count}
 use Rattle.blocks.specs.Nodes.{node_in}
@@ -28,12 +28,12 @@ expr_in b = cond (eqb (stated_form b) tree_form) (tree_in b) (form_of (stated_fo
 -- ---- slots: absent where no block gives one; undefined, or an expression
 
 abbrev pub held : Option UsableAlgExpr → LengthField
-held (some e) = LengthField.Expr e
-held none = LengthField.Undefined
+held (Some e) = LengthField.Expr e
+held None = LengthField.Undefined
 
 abbrev pub held_by : List ℕ → Option ℕ → LengthField
-held_by s (some i) = held (expr_in (block_at s i))
-held_by s none = LengthField.Absent
+held_by s (Some i) = held (expr_in (block_at s i))
+held_by s None = LengthField.Absent
 
 abbrev pub block_of_slot : List ℕ → ℕ → Option ℕ
 block_of_slot s slot = slot_block s slot (block_count s)
@@ -49,5 +49,5 @@ is_tree b = is_l (kind_of b) && eqb (stated_form b) tree_form
 
 -- none of the five forms
 abbrev pub no_form : Option UsableAlgExpr → Bool
-no_form (some e) = false
-no_form none = true
+no_form (Some e) = false
+no_form None = true

@@ -2,16 +2,13 @@
 #![tactic(auto)]
 
 ghost use Rattle.std.specs.Prelude.{◌≡◌, ◌&&◌};
-ghost use Rattle.tree.specs.Tree.{usable_says};
 ghost use Rattle.slots.specs.Slots.{root_in, tree_in, expr_in, held, block_of_slot, length_field, is_tree, no_form};
 ghost use Rattle.answer.specs.Walk.{or_zero};
 
 use expr::UsableAlgExpr;
-use sheet::SlotBlock;
-use tree::Usable;
 
-// What a slot holds: no block gives it; it is given without an expression; or with one.
-#[derive(Clone, Copy)]
+// What a slot holds: no block gives it; it is given without an expression; or with one. (As an `Option` in an `Option` the first two would have no names.)
+#[derive(Clone, Copy, Debug, PartialEq, Eq)]
 pub enum LengthField {
     Absent,
     Undefined,
@@ -19,7 +16,7 @@ pub enum LengthField {
 }
 
 // The same, and the block that gives it; 0 stands for none.
-#[derive(Clone, Copy)]
+#[derive(Clone, Copy, Debug, PartialEq, Eq)]
 pub struct Slot {
     pub held: LengthField,
     pub at: usize,
@@ -31,21 +28,18 @@ pub struct Slot {
 fn root_in(b: &[u8]) -> u8
     ensures { result ≡ root_in b.now }
 {
-    let count = blocks::node_count(b);
-    if count == 0 {
-        return 0;
-    }
-    count - 1
+    blocks::node_count(b).saturating_sub(1)
 }
 
-fn tree_in(b: &[u8]) -> Usable
-    ensures { usable_says result ≡ tree_in b.now }
+fn tree_in(b: &[u8]) -> Option<UsableAlgExpr>
+    ensures { result ≡ tree_in b.now }
 {
     tree::try_take_usable_alg_expr(blocks::nodes::nodes_of(b), root_in(b))
 }
 
-fn expr_in(b: &[u8]) -> Usable
-    ensures { usable_says result ≡ expr_in b.now }
+#[tactic(auto, unfolding(crate::specs::Slots::expr_in))]
+fn expr_in(b: &[u8]) -> Option<UsableAlgExpr>
+    ensures { result ≡ expr_in b.now }
 {
     let form = blocks::stated_form(b);
     if form == blocks::TREE {
@@ -53,15 +47,15 @@ fn expr_in(b: &[u8]) -> Usable
     }
     let one = blocks::first_number(b);
     let two = blocks::second_number(b);
-    Usable::of_form(form, one, two)
+    tree::of_form(form, one, two)
 }
 
 fn held_in(b: &[u8]) -> LengthField
     ensures { result ≡ held (expr_in b.now) }
 {
     match expr_in(b) {
-        Usable::Expr(e) => LengthField::Expr(e),
-        Usable::None => LengthField::Undefined,
+        Some(e) => LengthField::Expr(e),
+        None => LengthField::Undefined,
     }
 }
 
@@ -70,11 +64,11 @@ pub fn slot_of(s: &[u8], slot: u8) -> Slot
     ensures { (result.held ≡ length_field s.now slot) × (result.at ≡ or_zero (block_of_slot s.now slot)) }
 {
     match sheet::slot_block(s, slot) {
-        SlotBlock::At(i) => Slot {
+        Some(i) => Slot {
             held: held_in(sheet::block(s, i)),
             at: i,
         },
-        SlotBlock::None => Slot {
+        None => Slot {
             held: LengthField::Absent,
             at: 0,
         },
@@ -86,24 +80,12 @@ pub fn slot_of(s: &[u8], slot: u8) -> Slot
 fn is_tree(b: &[u8]) -> bool
     ensures { result ≡ is_tree b.now }
 {
-    (blocks::kind(b) == b'L') & (blocks::stated_form(b) == blocks::TREE)
-}
-
-fn lacks_form(e: Usable) -> bool
-    ensures { result ≡ no_form (usable_says e) }
-{
-    match e {
-        Usable::Expr(_) => false,
-        Usable::None => true,
-    }
+    blocks::kind(b) == b'L' && blocks::stated_form(b) == blocks::TREE
 }
 
 // Length 12 of a block: a tree that is none of the five forms.
 pub fn no_form(b: &[u8]) -> bool
     ensures { result ≡ (is_tree b.now && no_form (expr_in b.now)) }
 {
-    if is_tree(b) {
-        return lacks_form(expr_in(b));
-    }
-    false
+    is_tree(b) && expr_in(b).is_none()
 }

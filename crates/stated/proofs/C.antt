@@ -15,7 +15,7 @@ use Rattle.answer.proofs.Walk.{each_all, each_at}
 use Rattle.octets.specs.Octets.{AreBytes, byte, be, all_in, is_zero}
 use Rattle.octets.proofs.Octets.{be-lt}
 use Rattle.blocks.specs.Layout.{block_size, check_at, kind_of, kind_c, name_of, range_count, range_at, stated_range, range_rule, range_layout, c_layout}
-use Rattle.bounds.specs.declared.Bound.{Bound}
+use Rattle.std.specs.declared.ops.Bound.{Bound}
 use Rattle.bounds.specs.declared.CondBounds.{CondBounds}
 use Rattle.stated.specs.Items.{WellFormedStart, WellFormedEnd, WellFormedRange, all_numbers, WellFormedRanges, cond_item, WellFormed}
 use Rattle.stated.specs.Parts.{rows}
@@ -41,23 +41,23 @@ end_read (suc zero) n h z l = (l, refl, refl)
 end_read (suc (suc zero)) n h z l = (l, refl, refl)
 end_read (suc (suc (suc k))) n h z l = absurd (omega (arith, leb-true (suc (suc (suc k))) 2 h))
 
-pub bound-back : (e : Bound) → bound_from (bound_kind e) (bound_number e) ≡ e
+pub bound-back : (e : Bound ℕ) → bound_from (bound_kind e) (bound_number e) ≡ e
 bound-back Bound.Unbounded = refl
 bound-back (Bound.Included n) = refl
 bound-back (Bound.Excluded n) = refl
 
 -- a start is as good as an end
-as-end : (s : Bound) → WellFormedStart s → WellFormedEnd s
+as-end : (s : Bound ℕ) → WellFormedStart s → WellFormedEnd s
 as-end Bound.Unbounded h = h
 as-end (Bound.Included n) h = h
 as-end (Bound.Excluded n) h = absurd h
 
-bound-fits : (e : Bound) → WellFormedEnd e → (bound_kind e < 256) × (bound_number e < 2 ^ 64)
+bound-fits : (e : Bound ℕ) → WellFormedEnd e → (bound_kind e < 256) × (bound_number e < 2 ^ 64)
 bound-fits Bound.Unbounded h = (lit< tt, lit< tt)
 bound-fits (Bound.Included n) h = (lit< tt, h)
 bound-fits (Bound.Excluded n) h = (lit< tt, h)
 
-range-rule : (s e : Bound) → WellFormedStart s → range_rule (range_codes (record { start = s; end = e })) ≡ true
+range-rule : (s e : Bound ℕ) → WellFormedStart s → range_rule (range_codes (record { start = s; end = e })) ≡ true
 range-rule Bound.Unbounded Bound.Unbounded h = refl
 range-rule Bound.Unbounded (Bound.Included n) h = refl
 range-rule Bound.Unbounded (Bound.Excluded n) h = refl

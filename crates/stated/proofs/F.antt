@@ -11,7 +11,7 @@ use borrow.Author.Tests.{leb-true, le-leb, eqb-true}
 use Rattle.answer.proofs.Tests.{both_hold, parts}
 use Rattle.octets.specs.Octets.{AreBytes, byte}
 use Rattle.octets.proofs.Octets.{be-lt, bytes-slice}
-use Rattle.blocks.specs.Layout.{block_size, kind_of, kind_f, stated_repr, stated_arg, stated_gen, stated_default_kind, stated_fixed, stated_number, stated_count, stated_bytes_at, named, codes_layout, default_rule, default_layout, f_layout}
+use Rattle.blocks.specs.Layout.{block_size, kind_of, kind_f, stated_repr, stated_arg, stated_gen, stated_default_kind, stated_fixed, stated_number, stated_count, stated_bytes_at, codes_layout, default_rule, default_layout, f_layout}
 use Rattle.stated.specs.Items.{a_number, some_bytes, a_bool, DefaultItem, no_default, a_default, FieldItem, WellFormedDefault, WellFormedField}
 use Rattle.stated.specs.Stated.{flag, kind_of_default, fixed_of_default, number_of_default, bytes_of_default, default_parts, field_parts}
 use Rattle.stated.proofs.ItemIn.{default_from, field_in}

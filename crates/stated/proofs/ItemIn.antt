@@ -9,7 +9,7 @@ use Rattle.blocks.specs.Layout.{kind_of, is_f, is_l, name_of, stated_bits, state
 use Rattle.blocks.specs.Layout.{stated_slot, stated_form, first_number, second_number, undefined_form, tree_form, node_count, range_count, stated_range}
 use Rattle.blocks.specs.Nodes.{node_in}
 use Rattle.expr.specs.declared.UsableAlgExpr.{UsableAlgExpr}
-use Rattle.bounds.specs.declared.Bound.{Bound}
+use Rattle.std.specs.declared.ops.Bound.{Bound}
 use Rattle.bounds.specs.declared.CondBounds.{CondBounds}
 use Rattle.stated.specs.Items.{a_number, some_bytes, a_bool, DefaultItem, no_default, a_default, FieldItem, LengthItem, undefined, as_form, as_tree, Item, field_item, length_item, cond_item}
 use Rattle.stated.proofs.Tables.{tabled}
@@ -49,7 +49,7 @@ length_in b =
 
 -- ---- C
 
-abbrev pub bound_from : ℕ → ℕ → Bound
+abbrev pub bound_from : ℕ → ℕ → Bound ℕ
 bound_from kind number = cond (eqb kind 0) Bound.Unbounded (cond (eqb kind 1) (Bound.Included number) (Bound.Excluded number))
 
 abbrev pub bounds_from : StatedRange → CondBounds

@@ -4,7 +4,7 @@ use Rattle.std.proofs.Math.Seq.{slice}
 use Rattle.octets.specs.Ascii.{ascii}
 use Rattle.blocks.specs.declared.nodes.Node.{Node}
 use Rattle.expr.specs.declared.UsableAlgExpr.{UsableAlgExpr}
-use Rattle.bounds.specs.declared.Bound.{Bound}
+use Rattle.std.specs.declared.ops.Bound.{Bound}
 use Rattle.stated.specs.Items.{a_number, some_bytes, a_default, as_form, as_tree, Item, field_item, length_item, cond_item}
 use Rattle.stated.specs.Parts.{number_bytes, rows}
 use Rattle.stated.specs.Stated.{stated}

@@ -4,7 +4,7 @@ use Rattle.octets.specs.Octets.{AreBytes, all, is_name_byte}
 use Rattle.blocks.specs.declared.nodes.Node.{Node}
 use Rattle.expr.specs.declared.UsableAlgExpr.{UsableAlgExpr}
 use Rattle.expr.specs.Forms.{first_in, second_in}
-use Rattle.bounds.specs.declared.Bound.{Bound}
+use Rattle.std.specs.declared.ops.Bound.{Bound}
 use Rattle.bounds.specs.declared.CondBounds.{CondBounds}
 
 -- a name: 1 to 64 bytes, each from 33 to 126
@@ -86,12 +86,12 @@ WellFormedLength (as_tree name nodes) = WellFormedName name × WellFormedNodes n
 -- ---- C: a condition, as the ranges of a field's value
 
 -- no start is excluded
-abbrev pub WellFormedStart : Bound → Type 0
+abbrev pub WellFormedStart : Bound ℕ → Type 0
 WellFormedStart Bound.Unbounded = Unit {0}
 WellFormedStart (Bound.Included n) = n < 2 ^ 64
 WellFormedStart (Bound.Excluded n) = ⊥
 
-abbrev pub WellFormedEnd : Bound → Type 0
+abbrev pub WellFormedEnd : Bound ℕ → Type 0
 WellFormedEnd Bound.Unbounded = Unit {0}
 WellFormedEnd (Bound.Included n) = n < 2 ^ 64
 WellFormedEnd (Bound.Excluded n) = n < 2 ^ 64

@@ -5,7 +5,7 @@ use Rattle.blocks.specs.declared.nodes.Node.{Node}
 use Rattle.blocks.specs.Layout.{kind_f, kind_l, kind_c, undefined_form, tree_form}
 use Rattle.blocks.specs.Ones.{words, ones_sum}
 use Rattle.expr.specs.Forms.{form_number, first_in, second_in}
-use Rattle.bounds.specs.declared.Bound.{Bound}
+use Rattle.std.specs.declared.ops.Bound.{Bound}
 use Rattle.bounds.specs.declared.CondBounds.{CondBounds}
 use Rattle.stated.specs.Items.{a_number, some_bytes, a_bool, DefaultItem, no_default, a_default, FieldItem, LengthItem, undefined, as_form, as_tree, Item, field_item, length_item, cond_item}
 use Rattle.stated.specs.Parts.{Part, one_byte, big_endian, padded, number_bytes, written, rows}
@@ -104,12 +104,12 @@ length_parts slot l =
 -- ---- C
 
 -- 0 none, 1 included, 2 excluded
-abbrev pub bound_kind : Bound → ℕ
+abbrev pub bound_kind : Bound ℕ → ℕ
 bound_kind Bound.Unbounded = 0
 bound_kind (Bound.Included n) = 1
 bound_kind (Bound.Excluded n) = 2
 
-abbrev pub bound_number : Bound → ℕ
+abbrev pub bound_number : Bound ℕ → ℕ
 bound_number Bound.Unbounded = 0
 bound_number (Bound.Included n) = n
 bound_number (Bound.Excluded n) = n

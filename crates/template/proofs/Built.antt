@@ -1,4 +1,5 @@
 -- The contract of the template by its cases: a step refused, no room, room; and it allows one answer and one buffer after it. Assumes nothing.
+use Rattle.std.specs.Prelude.{Result, Ok, Err}
 use mathlib.Core.Path.{◌≡◌, refl, sym, ◌∙◌}
 use mathlib.Core.List.{List}
 use mathlib.Core.Logic.Iff
@@ -8,11 +9,10 @@ use lib.ListN.{length}
 use borrow.Author.Tests.{lt-ltb}
 use Rattle.answer.specs.declared.Group.{Group}
 use Rattle.answer.specs.declared.Refusal.{Refusal}
-use Rattle.answer.specs.declared.Verdict.{Verdict}
-use Rattle.answer.specs.Paper.{Check, gives, refused, accepted, verdict_says, refusal_says}
+use Rattle.answer.specs.Paper.{Check, gives, refused, accepted, says, refusal_says}
 use Rattle.answer.proofs.Chains.{stand, both_is, refuse-is, never-given}
 use Rattle.answer.proofs.Tests.{ltb-is-not}
-use Rattle.answer.proofs.OneToOne.{verdict-one}
+use Rattle.answer.proofs.OneToOne.{says-one}
 use Rattle.sheet.specs.Blocks.{block_count, field_count}
 use Rattle.layout.specs.Layout.{Filled}
 use Rattle.layout.proofs.Filled.{filled-one}
@@ -40,27 +40,27 @@ module _ (s : List ℕ) where
 -- ---- the contract
 
 -- a refusal, with nothing changed
-refusing : (s b : List ℕ) (r : Refusal) → refusal_says r ≡ template_check s (length b) → TemplateBuilt s b b (Verdict.Refused r)
+refusing : (s b : List ℕ) (r : Refusal) → refusal_says r ≡ template_check s (length b) → TemplateBuilt s b b (Err r)
 refusing s b r e = record { answer = e; filled = λ a. absurd (never-given refl a); untouched = λ _. refl }
 
 module _ (s b : List ℕ) where
-  pub built-refused : (r : Refusal) → definition_check s ≡ refusal_says r → TemplateBuilt s b b (Verdict.Refused r)
+  pub built-refused : (r : Refusal) → definition_check s ≡ refusal_says r → TemplateBuilt s b b (Err r)
   built-refused r e = refusing s b r (sym (steps-refuse s (length b) e))
 
-  pub built-no-room : (r : Refusal) → verdict_says (Verdict.Refused r) ≡ refused Group.Room 1 (block_count s) → definition_check s ≡ accepted → length b < header_bytes s → TemplateBuilt s b b (Verdict.Refused r)
+  pub built-no-room : (r : Refusal) → refusal_says {A = Unit {0}} r ≡ refused Group.Room 1 (block_count s) → definition_check s ≡ accepted → length b < header_bytes s → TemplateBuilt s b b (Err r)
   built-no-room r is ok h = refusing s b r (is ∙ sym (no_room s (length b) ok h))
 
-  pub built : (c : List ℕ) → definition_check s ≡ accepted → header_bytes s ≤ length b → Filled (header_layout s) (field_count s) b c → TemplateBuilt s b c Verdict.Accepted
+  pub built : (c : List ℕ) → definition_check s ≡ accepted → header_bytes s ≤ length b → Filled (header_layout s) (field_count s) b c → TemplateBuilt s b c (Ok tt)
   built c ok h f = record { answer = sym ((room-is s (length b)).1 (ok, h)); filled = λ _. f; untouched = λ n. absurd (n refl) }
 
 -- ---- one answer, and one buffer after it
 
-pub built-one : {s b c d : List ℕ} {q r : Verdict} → TemplateBuilt s b c q → TemplateBuilt s b d r → (q ≡ r) × (c ≡ d)
-built-one {c = c} {d} {q} {r} x y = (verdict-one q r same, buffers (verdict_says q) refl)
+pub built-one : {s b c d : List ℕ} {q r : Result (Unit {0}) Refusal} → TemplateBuilt s b c q → TemplateBuilt s b d r → (q ≡ r) × (c ≡ d)
+built-one {c = c} {d} {q} {r} x y = (says-one q r same, buffers (says q) refl)
   where
-    same : verdict_says q ≡ verdict_says r
+    same : says q ≡ says r
     same = x.answer ∙ sym y.answer
 
-    buffers : (p : Check) → verdict_says q ≡ p → c ≡ d
+    buffers : (p : Check) → says q ≡ p → c ≡ d
     buffers (gives _) e = filled-one (x.filled e) (y.filled (sym same ∙ e))
     buffers (refused g n at) e = x.untouched (never-given e) ∙ sym (y.untouched (never-given (sym same ∙ e)))

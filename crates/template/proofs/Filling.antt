@@ -1,5 +1,6 @@
 -- What filling one field asks: the bytes that a default states lie in its block, and what is written, a number or bytes or zeros, is the `put` of the
 -- default into the field's run. Assumes nothing.
+use Rattle.std.specs.Prelude.{Some, None}
 use mathlib.Core.Path.{◌≡◌, refl, sym, ap, ◌∙◌}
 use mathlib.Core.Bool.{Bool, true, false, cond}
 use mathlib.Core.List.{List}
@@ -9,11 +10,9 @@ use native.Mathlib.Omega.{arith}
 use lib.Dec.{eqb, lit≤}
 use lib.ListN.{length, take, length-take, length-drop}
 use lib.Seq.{slice}
-use Rattle.bits.specs.declared.NumberWrite.{NumberWrite}
-use Rattle.bits.specs.declared.BytesWrite.{BytesWrite}
 use Rattle.bits.specs.Bits.{num, value, spelled}
 use Rattle.bits.specs.Writes.{put}
-use Rattle.bits.specs.Runs.{NumberWritten, BytesWritten}
+use Rattle.bits.specs.Runs.{RunCheck, NumberWritten, BytesWritten}
 use Rattle.bits.proofs.Writes.{number_put, bytes-put}
 use Rattle.blocks.specs.Layout.{check_at, stated_bits, stated_default_kind, stated_fixed, stated_number, stated_count, stated_bytes_at}
 use Rattle.types.specs.declared.BuiltinTypes.{BuiltinTypes}
@@ -21,7 +20,6 @@ use Rattle.types.specs.Types.{is_slice}
 use Rattle.types.proofs.CodesAndNames.{same-type}
 use Rattle.field.specs.declared.Span.{Span}
 use Rattle.field.specs.declared.DefaultVal.{DefaultVal}
-use Rattle.field.specs.declared.DefinedDefault.{DefinedDefault}
 use Rattle.field.specs.declared.Field.{Field}
 use Rattle.field.specs.Sound.{width_of}
 use Rattle.field.specs.Fields.{no_bytes, repr_of, default_of}
@@ -61,14 +59,14 @@ module _ (b : List ℕ) (few : stated_bytes_at + stated_count b ≤ check_at) (s
   pub span-inside : Inside (resolved_in b).default
   span-inside = by_kind (eqb (stated_default_kind b) 0)
     where
-      by_kind : (absent : Bool) → Inside (default_of (repr_of (stated_bits b) (repr_in b)) (cond absent DefinedDefault.Absent (DefinedDefault.Given (value_in b) (eqb (stated_fixed b) 1))))
+      by_kind : (absent : Bool) → Inside (default_of (repr_of (stated_bits b) (repr_in b)) (cond absent None (Some (value_in b, eqb (stated_fixed b) 1))))
       by_kind true = either-inside (is_slice (repr_of (stated_bits b) (repr_in b))) (DefaultVal.Bytes no_bytes) (DefaultVal.Num 0) (span-within 0 0 (lit≤ tt)) (number-within 0)
       by_kind false =
           either-inside (eqb (stated_default_kind b) 1) (DefaultVal.Num (stated_number b)) _ (number-within (stated_number b))
           (either-inside (eqb (stated_default_kind b) 2) (DefaultVal.Bytes (record { at = stated_bytes_at; len = stated_count b })) _ (span-within stated_bytes_at (stated_count b) few) (flag-within (eqb (stated_number b) 1)))
 
 -- as many as the run has: the run holds what they spell
-pub stated-filled : {buf c part stated : List ℕ} {f n : ℕ} {r : BytesWrite} → part ≡ stated → length stated ≡ n → f + n ≤ length buf
+pub stated-filled : {buf c part stated : List ℕ} {f n : ℕ} {r : RunCheck} → part ≡ stated → length stated ≡ n → f + n ≤ length buf
     → BytesWritten buf c (length buf) f (length part) (spelled part) r → c ≡ put buf (8 * f) (8 * n) (spelled stated)
 stated-filled {buf} {stated = stated} {f} {n} same count room w =
     bytes-put (rw (same, count) room) (omega arith) w ∙ ap (λ (l : List ℕ). put buf (8 * f) (8 * length l) (spelled l)) same
@@ -83,7 +81,7 @@ module _ {buf b : List ℕ} {f : Field} {s : ℕ} (h : Fillable buf b f s) where
     no-slice true q = absurd (h.sound.number-field v e (same-type f.repr BuiltinTypes.ByteSlice q))
     no-slice false q = refl
 
-    pub number-filled : {c : List ℕ} {at : ℕ} {r : NumberWrite} → at ≡ s → NumberWritten buf c (length buf) at (width_of f) v r → c ≡ put buf s (width_of f) (default_number b f.default)
+    pub number-filled : {c : List ℕ} {at : ℕ} {r : RunCheck} → at ≡ s → NumberWritten buf c (length buf) at (width_of f) v r → c ≡ put buf s (width_of f) (default_number b f.default)
     number-filled at-start w =
         number_put (h.good.number (no-slice (is_slice f.repr) refl)) h.room (omega arith) (h.sound.number_fits v e) (rw at-start at w)
         ∙ ap (λ (d : DefaultVal). put buf s (width_of f) (default_number b d)) (sym e)

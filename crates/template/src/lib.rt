@@ -8,15 +8,13 @@ ghost use Rattle.bits.specs.Writes.{put};
 ghost use Rattle.sheet.specs.Blocks.{field_count};
 ghost use Rattle.layout.specs.Layout.{Filled};
 ghost use Rattle.header.specs.Starts.{default_number, header_layout, bits_of};
-ghost use Rattle.header.specs.Step.{header_of};
-ghost use Rattle.definition.specs.Definition.{Accepted};
 ghost use Rattle.template.specs.Template.{TemplateBuilt};
 ghost use Rattle.template.specs.Working.{Fillable};
 
-use answer::{Refusal, RoomFault, Verdict};
-use bits::BitPos;
+use answer::{Refusal, RoomFault};
+use bits::{BitPos, Run};
+use definition::Definition;
 use field::{DefaultVal, Field, Span};
-use header::{Header, NewHeader};
 use number::{Bits, Bytes};
 use octets::part;
 
@@ -29,9 +27,9 @@ fn fill_bytes(buf: &mut [u8], from: Bytes, count: Bytes, b: &[u8], span: Span)
 {
     let all = Bytes(buf.len() as u64);
     if span.len == 0 {
-        bits::clear_bytes(buf, all, from, count);
+        let _ = bits::clear_bytes(buf, all, from, count);
     } else {
-        bits::write_bytes(buf, all, from, part(b, span.at, span.at + span.len));
+        let _ = bits::write_bytes(buf, all, from, part(b, span.at, span.at + span.len));
     }
 }
 
@@ -40,57 +38,51 @@ fn fill_field(buf: &mut [u8], b: &[u8], f: Field, start: Bits)
     requires { Fillable buf.old b.now f start.0 }
     ensures { buf.new ≡ put buf.old start.0 f.width.0 (default_number b.now f.default) }
 {
-    let width = f.width;
-    let default = f.default;
-    match default {
+    match f.default {
         DefaultVal::Num(n) => {
             let all = Bytes(buf.len() as u64);
-            bits::write_number(buf, all, BitPos::new(start), width, n);
+            let run = Run {
+                start: BitPos::new(start),
+                width: f.width,
+            };
+            let _ = run.write_number(buf, all, n);
         }
         DefaultVal::Bool(_) => {} // no field has one
         DefaultVal::Bytes(span) => {
-            fill_bytes(buf, start.whole_bytes(), width.whole_bytes(), b, span);
+            fill_bytes(buf, start.whole_bytes(), f.width.whole_bytes(), b, span);
         }
     }
 }
 
-// Fills the header of an accepted sheet.
-fn fill(s: &[u8], buf: &mut [u8], n: usize)
-    requires accepted { Accepted s.now }
-    requires n_value { (n ≡ field_count s.now) × (bits_of s.now ≤ 8 * length buf.old) }
-    ensures { Filled (header_layout s.now) (field_count s.now) buf.old buf.new }
+// Fills the header of a definition.
+fn fill(d: &Definition<'_>, buf: &mut [u8])
+    requires { bits_of d.now.sheet.now ≤ 8 * length buf.old }
+    ensures { Filled (header_layout d.now.sheet.now) (field_count d.now.sheet.now) buf.old buf.new }
 {
     let mut start = Bits(0);
-    let mut i = 0;
-    while i < n {
-        let b = sheet::block(s, i);
+    for i in 0..d.header.fields {
+        let b = sheet::block(d.sheet, i);
         let f = field_blocks::resolved(b);
         fill_field(buf, b, f, start);
         start = Bits(start.0 + f.width.0);
-        i += 1;
     }
 }
 
-// Room 1, or the header filled.
-fn fill_header(s: &[u8], buf: &mut [u8], h: Header) -> Verdict
-    requires accepted { Accepted s.now }
-    requires h_value { h ≡ header_of s.now }
-    ensures { TemplateBuilt s.now buf.old buf.new result }
+// Room 1, or the template of a definition in front of the buffer.
+pub fn build(d: &Definition<'_>, buf: &mut [u8]) -> Result<(), Refusal>
+    ensures { TemplateBuilt d.now.sheet.now buf.old buf.new result }
 {
-    let len = h.len;
-    if (buf.len() as u64) < len.0 {
-        return Verdict::Refused(Refusal::Room(RoomFault::BufferUnderHeader, sheet::block_count(s)));
+    if (buf.len() as u64) < d.header.len.0 {
+        let place = sheet::block_count(d.sheet);
+        return Err(Refusal::Room(RoomFault::BufferUnderHeader, place));
     }
-    fill(s, buf, h.fields);
-    Verdict::Accepted
+    fill(d, buf);
+    Ok(())
 }
 
 // Steps 1 to 5 and room 1; past them the buffer has the template in front.
-pub fn build_header_template(s: &[u8], buf: &mut [u8]) -> Verdict
+pub fn build_header_template(s: &[u8], buf: &mut [u8]) -> Result<(), Refusal>
     ensures { TemplateBuilt s.now buf.old buf.new result }
 {
-    match definition::checked_header(s) {
-        NewHeader::Refused(reason) => Verdict::Refused(reason),
-        NewHeader::Is(h) => fill_header(s, buf, h),
-    }
+    build(&Definition::new(s)?, buf)
 }

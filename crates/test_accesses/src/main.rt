@@ -3,191 +3,190 @@
 // file has for them, and how many did not.
 #![tactic(auto)]
 
-ghost use Rattle.std.specs.Prelude.{◌*◌, ◌≤◌};
+ghost use Rattle.std.specs.Prelude.{◌≤◌, ◌-◌, length};
 
-use access::LocatorAnswer;
-use answer::Verdict;
-use locator::{Locator, NumberAnswer};
-use packed::Tally;
+use answer::Refusal;
+use locator::Locator;
+use octets::{be16, be64, byte_at, part};
+use packed::{Stored, Tally, answer_in, two};
 use std::alloc::{AllocError, Global};
 use std::process::ExitCode;
-use streams::Input;
-use text::Cursor;
 
-// ---- the buffer before and after an operation
+// ---- an operation
 
-// Byte i of a filling: zeros, ones, or mixed.
-fn filling(kind: u8, i: usize) -> u8 {
-    match kind {
-        0 => 0,
-        1 => 255,
-        _ => ((37 * (i % 256) + 11) % 256) as u8,
+// With the number or the bytes that are written, or that an accepted read gives.
+#[derive(Clone, Copy)]
+enum Access<'a> {
+    ReadNumber(u64),
+    ReadBytes(&'a [u8]),
+    WriteNumber(u64),
+    WriteBytes(&'a [u8]),
+}
+
+fn access_in<'a>(head: &[u8], bytes: &'a [u8]) -> Access<'a> {
+    match byte_at(head, 0) {
+        0 => Access::ReadNumber(be64(head, 5)),
+        1 => Access::ReadBytes(bytes),
+        2 => Access::WriteNumber(be64(head, 5)),
+        _ => Access::WriteBytes(bytes),
     }
 }
 
-fn fill(buf: &mut [u8], kind: u8) {
-    for i in 0..buf.len() {
-        buf[i] = filling(kind, i);
+#[derive(Clone, Copy)]
+struct Operation<'a> {
+    access: Access<'a>,
+    field: usize,
+    // a kind of filling, which the buffer holds before
+    filling: u8,
+    // what is answered, and the bytes that differ afterwards, with the index of the first
+    right: Result<(), Stored>,
+    from: usize,
+    differ: &'a [u8],
+}
+
+fn operation_in<'a>(head: &[u8], bytes: &'a [u8], differ: &'a [u8]) -> Operation<'a> {
+    Operation {
+        access: access_in(head, bytes),
+        field: usize::from(byte_at(head, 1)),
+        filling: byte_at(head, 2),
+        right: answer_in(part(head, 15, 18)),
+        from: two(head, 18),
+        differ,
     }
 }
 
-// Byte i after the operation: the filling, but for the bytes that differ.
-fn expected(kind: u8, from: usize, differ: &[u8], i: usize) -> u8 {
-    if i < from {
-        return filling(kind, i);
-    }
-    let k = i - from;
-    if k < differ.len() {
-        return differ[k];
-    }
-    filling(kind, i)
-}
+impl<'a> Operation<'a> {
+    // ---- the buffer before and after
 
-fn is_left(buf: &[u8], kind: u8, from: usize, differ: &[u8]) -> bool {
-    let mut ok = true;
-    for i in 0..buf.len() {
-        ok = ok & (buf[i] == expected(kind, from, differ, i));
-    }
-    ok
-}
-
-// ---- the answers; op is the head of the operation
-
-// Whether the operation has this group, number and place.
-fn has(op: &[u8], group: u8, number: u8, place: usize) -> bool {
-    (octets::byte_at(op, 15) == group)
-        & (octets::byte_at(op, 16) == number)
-        & (octets::byte_at(op, 17) as usize == place)
-}
-
-fn is_answer(op: &[u8], v: Verdict) -> bool {
-    match v {
-        Verdict::Accepted => has(op, 0, 0, 0),
-        Verdict::Refused(reason) => {
-            let paper = reason.on_paper();
-            let group = paper.group;
-            has(op, group.number(), paper.number, paper.place)
+    // Byte i of the filling: zeros, ones, or mixed.
+    fn filling(self, i: usize) -> u8 {
+        match self.filling {
+            0 => 0,
+            1 => 255,
+            _ => ((37 * (i % 256) + 11) % 256) as u8,
         }
     }
-}
 
-fn is_number(op: &[u8], n: NumberAnswer) -> bool {
-    match n {
-        NumberAnswer::Is(x) => is_answer(op, Verdict::Accepted) & (x == octets::be64(op, 5)),
-        NumberAnswer::Refused(reason) => is_answer(op, Verdict::Refused(reason)),
-    }
-}
-
-// ---- an operation, by the sheet and at the locator
-
-fn by_sheet(s: &[u8], buf: &mut [u8], op: &[u8], bytes: &[u8]) -> bool {
-    let i = octets::byte_at(op, 1) as usize;
-    match octets::byte_at(op, 0) {
-        0 => is_number(op, access::read_number(s, buf, i)),
-        1 => {
-            octets::same_bytes(access::read_bytes(s, buf, i), bytes)
-                & is_answer(op, access::can_read_bytes(s, buf, i))
+    fn fill(self, buf: &mut [u8]) {
+        for (i, b) in buf.iter_mut().enumerate() {
+            *b = self.filling(i);
         }
-        2 => is_answer(op, access::write_number(s, buf, i, octets::be64(op, 5))),
-        _ => is_answer(op, access::write_bytes(s, buf, i, bytes)),
+    }
+
+    // Byte i afterwards.
+    fn after(self, i: usize) -> u8 {
+        match i.checked_sub(self.from) {
+            Some(k) if k < self.differ.len() => self.differ[k],
+            _ => self.filling(i),
+        }
+    }
+
+    fn is_left(self, buf: &[u8]) -> bool {
+        buf.iter().enumerate().all(|(i, b)| *b == self.after(i))
+    }
+
+    // ---- by the sheet and at the locator
+
+    fn is_answer(self, v: Result<(), Refusal>) -> bool {
+        v.map_err(Stored::from) == self.right
+    }
+
+    fn is_number(self, read: Result<u64, Refusal>, n: u64) -> bool {
+        read.map_err(Stored::from) == self.right.map(|_| n)
+    }
+
+    fn by_sheet(self, s: &[u8], buf: &mut [u8]) -> bool {
+        let i = self.field;
+        match self.access {
+            Access::ReadNumber(n) => self.is_number(access::read_number(s, buf, i), n),
+            Access::ReadBytes(bytes) => {
+                access::read_bytes(s, buf, i) == bytes
+                    && self.is_answer(access::can_read_bytes(s, buf, i))
+            }
+            Access::WriteNumber(n) => self.is_answer(access::write_number(s, buf, i, n)),
+            Access::WriteBytes(bytes) => self.is_answer(access::write_bytes(s, buf, i, bytes)),
+        }
+    }
+
+    fn at_locator(self, p: Locator, buf: &mut [u8]) -> bool {
+        match self.access {
+            Access::ReadNumber(n) => self.is_number(p.read_number(buf), n),
+            Access::ReadBytes(bytes) => {
+                p.read_bytes(buf) == bytes && self.is_answer(p.can_read_bytes(buf))
+            }
+            Access::WriteNumber(n) => self.is_answer(p.write_number(buf, n)),
+            Access::WriteBytes(bytes) => self.is_answer(p.write_bytes(buf, bytes)),
+        }
+    }
+
+    fn by_locator(self, s: &[u8], buf: &mut [u8]) -> bool {
+        match access::locate(s, self.field) {
+            Ok(p) => self.at_locator(p, buf),
+            Err(reason) => self.is_answer(Err(reason)),
+        }
+    }
+
+    // Whether both give the answer and leave the buffer that the file has.
+    fn is_right(self, s: &[u8], buf: &mut [u8]) -> bool {
+        self.fill(buf);
+        let first = self.by_sheet(s, buf) && self.is_left(buf);
+        self.fill(buf);
+        first && self.by_locator(s, buf) && self.is_left(buf)
     }
 }
 
-fn at_locator(p: Locator, buf: &mut [u8], op: &[u8], bytes: &[u8]) -> bool {
-    match octets::byte_at(op, 0) {
-        0 => is_number(op, p.read_number(buf)),
-        1 => { octets::same_bytes(p.read_bytes(buf), bytes) & is_answer(op, p.can_read_bytes(buf)) }
-        2 => is_answer(op, p.write_number(buf, octets::be64(op, 5))),
-        _ => is_answer(op, p.write_bytes(buf, bytes)),
-    }
-}
-
-fn by_locator(s: &[u8], buf: &mut [u8], op: &[u8], bytes: &[u8]) -> bool {
-    match access::locate(s, octets::byte_at(op, 1) as usize) {
-        LocatorAnswer::Is(p) => at_locator(p, buf, op, bytes),
-        LocatorAnswer::Refused(reason) => is_answer(op, Verdict::Refused(reason)),
-    }
-}
-
-// Whether both give the answer and leave the buffer that the file has.
-fn is_right(s: &[u8], buf: &mut [u8], op: &[u8], bytes: &[u8], differ: &[u8]) -> bool {
-    let kind = octets::byte_at(op, 2);
-    let from = octets::be16(op, 18) as usize;
-    fill(buf, kind);
-    let first = by_sheet(s, buf, op, bytes) & is_left(buf, kind, from, differ);
-    fill(buf, kind);
-    first & by_locator(s, buf, op, bytes) & is_left(buf, kind, from, differ)
-}
-
-fn replay_one(s: &[u8], op: &[u8], bytes: &[u8], differ: &[u8]) -> bool {
+// In a buffer of n bytes.
+fn replay_one(s: &[u8], operation: Operation<'_>, n: usize) -> bool {
     let mut buf = [0u8; 2048];
-    let n = octets::be16(op, 3) as usize;
-    if 2048 < n {
-        return false;
-    }
-    is_right(s, &mut buf[..n], op, bytes, differ)
+    n <= buf.len() && operation.is_right(s, &mut buf[..n])
 }
 
 // ---- the records
 
-// How the operations turned out so far, and how many bytes the last ones are.
-#[derive(Clone, Copy)]
-struct Replayed {
-    tally: Tally,
-    size: usize,
-}
-
-// n operations on a sheet, one behind the other. Where the sheet is not whole, all of them are wrong.
-fn replay_operations(tally: Tally, s: &[u8], whole: bool, ops: &[u8], n: u16) -> Replayed
-    ensures { result.size ≤ 131092 * 65535 }
+// n operations on a sheet, one behind the other; what is left behind them. Where the sheet is not whole, all of them are wrong.
+fn replay_operations<'a>(
+    tally: &mut Tally,
+    s: &[u8],
+    whole: bool,
+    operations: &'a [u8],
+    n: u16,
+) -> &'a [u8]
+    ensures { length result.now ≤ length operations.now }
 {
-    let mut tally = tally;
-    let mut at: usize = 0;
+    let mut left = operations;
     for _ in 0..n {
-        let op = octets::part(ops, at, at + 22);
-        let c = at + 22 + packed::two(op, 13);
-        let e = c + packed::two(op, 20);
-        let right = replay_one(
-            s,
-            op,
-            octets::part(ops, at + 22, c),
-            octets::part(ops, c, e),
-        );
-        tally = tally.with(whole & right);
-        at = e;
+        let head = part(left, 0, 22);
+        let differ = 22 + two(head, 13);
+        let next = differ + two(head, 20);
+        let operation = operation_in(head, part(left, 22, differ), part(left, differ, next));
+        *tally = tally.with(whole && replay_one(s, operation, two(head, 3)));
+        left = part(left, next, left.len());
     }
-    Replayed { tally, size: at }
+    left
 }
 
-// A record: its head, the packed sheet, the operations.
-fn replay_record(tally: Tally, record: &[u8]) -> Replayed
-    ensures { result.size ≤ 131093 * 65536 }
+// A record at the front of what is left: its head, the packed sheet, the operations; what is left behind it.
+fn replay_record<'a>(tally: &mut Tally, left: &'a [u8]) -> &'a [u8]
+    ensures { length result.now ≤ length left.now - 6 }
 {
-    let p = 6 + packed::two(record, 0);
-    let len = packed::two(record, 2);
-    let n = octets::be16(record, 4);
+    let p = 6 + two(left, 0);
+    let len = two(left, 2);
+    let n = be16(left, 4);
     let mut sheet = [0u8; 65536];
-    let whole = packed::unpack(octets::part(record, 6, p), 0, &mut sheet) <= len;
-    let ops = octets::part(record, p, record.len());
-    let r = replay_operations(tally, octets::part(&sheet, 0, len), whole, ops, n);
-    let tally = r.tally;
-    Replayed {
-        tally,
-        size: p + r.size,
-    }
+    let whole = packed::unpack(part(left, 6, p), 0, &mut sheet) <= len;
+    let operations = part(left, p, left.len());
+    replay_operations(tally, part(&sheet, 0, len), whole, operations, n)
 }
 
 // Record after record up to the end of the file, or a thousand.
 fn replay_all(file: &[u8]) -> Tally {
     let mut tally = Tally::NONE;
-    let mut at: usize = 0;
-    for _ in 0..1000u64 {
-        if file.len() <= at {
+    let mut left = file;
+    for _ in 0..1000 {
+        if left.is_empty() {
             break;
         }
-        let r = replay_record(tally, octets::part(file, at, file.len()));
-        tally = r.tally;
-        at += r.size;
+        left = replay_record(&mut tally, left);
     }
     tally
 }
@@ -199,13 +198,13 @@ fn large(alloc: Global) -> Result<Vec<u8>, AllocError> {
 
 fn main(rt: HostRuntime) -> Result<ExitCode, AllocError> {
     let mut file = large(rt.alloc())?;
-    let Input::Bytes(n) = streams::read_file(&rt, b"accesses", &mut file) else {
+    let Ok(n) = streams::read_file(&rt, b"accesses", &mut file) else {
         return Ok(ExitCode::FAILURE);
     };
-    let tally = replay_all(octets::part(&file, 0, n));
+    let tally = replay_all(part(&file, 0, n));
     let mut out = [0u8; 128];
-    let to = tally.put(&mut out, Cursor::At(0), b"");
-    match rt.write_all(octets::part(&out, 0, text::filled(&out, to))) {
+    let to = tally.put(&mut out, Some(0), b"");
+    match rt.write_all(part(&out, 0, text::filled(&out, to))) {
         Ok(()) => Ok(ExitCode::SUCCESS),
         Err(why) => {
             let _ = eprintln!(rt; "test_accesses: cannot write standard output: {why}");

@@ -10,8 +10,8 @@ use lib.Dec.{ltb}
 use lib.ListN.{length, set, drop, get_or, length-set, drop_of_length-le}
 use lib.Seq.{drop-cons}
 use borrow.Author.Tests.{lt-ltb, le-ltb}
-use Rattle.text.specs.declared.Cursor.{Cursor}
 use Rattle.text.specs.Text.{hex_digit, hex, spaced, line, texts_n, texts}
+use Rattle.std.specs.Prelude.{Option, Some, None}
 use Rattle.text.specs.Output.{Output, byte_to, emit}
 
 -- ---- one text after another
@@ -56,12 +56,12 @@ ended w ws o e f g = g ∙ ap (emit (10 ∷ [])) (f ∙ ap (emit (spaced ws)) e)
 
 -- ---- the buffer keeps its length
 
-byte-kept : (x : ℕ) (b : List ℕ) (p : Cursor) → length (byte_to x b p).0 ≡ length b
+byte-kept : (x : ℕ) (b : List ℕ) (p : Option ℕ) → length (byte_to x b p).0 ≡ length b
 unfolding byte_to
-byte-kept x b Cursor.Full = refl
-byte-kept x b (Cursor.At at) = by (ltb at (length b))
+byte-kept x b None = refl
+byte-kept x b (Some at) = by (ltb at (length b))
   where
-    by : (t : Bool) → length (cond {A = Output} t (set b at x, Cursor.At (at + 1)) (b, Cursor.Full)).0 ≡ length b
+    by : (t : Bool) → length (cond {A = Output} t (set b at x, Some (at + 1)) (b, None)).0 ≡ length b
     by true = length-set b at x
     by false = refl
 
@@ -71,21 +71,21 @@ emit-kept [] o = refl
 emit-kept (x ∷ t) o = emit-kept t (byte_to x o.0 o.1) ∙ byte-kept x o.0 o.1
 
 -- the same, of what a call left
-pub kept : (t : List ℕ) (o : Output) {b : List ℕ} {p : Cursor} → (b, p) ≡ emit t o → length b ≡ length o.0
+pub kept : (t : List ℕ) (o : Output) {b : List ℕ} {p : Option ℕ} → (b, p) ≡ emit t o → length b ≡ length o.0
 kept t o e = ap (λ (q : Output). length q.0) e ∙ emit-kept t o
 
 -- ---- the next byte of a text: within the buffer, at its end, and past that
 
-pub emit-go : (x : ℕ) (t b : List ℕ) (at : ℕ) → at < length b → emit (x ∷ t) (b, Cursor.At at) ≡ emit t (set b at x, Cursor.At (at + 1))
+pub emit-go : (x : ℕ) (t b : List ℕ) (at : ℕ) → at < length b → emit (x ∷ t) (b, Some at) ≡ emit t (set b at x, Some (at + 1))
 unfolding emit byte_to
 emit-go x t b at h = rw (lt-ltb at (length b) h)
 
-pub emit-full : (t b : List ℕ) → emit t (b, Cursor.Full) ≡ (b, Cursor.Full)
+pub emit-full : (t b : List ℕ) → emit t (b, None) ≡ (b, None)
 unfolding emit byte_to
 emit-full [] b = refl
 emit-full (x ∷ t) b = emit-full t b
 
-pub emit-stop : (x : ℕ) (t b : List ℕ) (at : ℕ) → length b ≤ at → emit (x ∷ t) (b, Cursor.At at) ≡ (b, Cursor.Full)
+pub emit-stop : (x : ℕ) (t b : List ℕ) (at : ℕ) → length b ≤ at → emit (x ∷ t) (b, Some at) ≡ (b, None)
 unfolding emit byte_to
 emit-stop x t b at h = rw (le-ltb at (length b) h) (emit-full t b)
 
@@ -96,10 +96,10 @@ module _ (s : List ℕ) (i : ℕ) where
   rest-none h o = rw (drop_of_length-le s h) (emit-none o)
 
   pub rest-go : i < length s → (b : List ℕ) (at : ℕ) → at < length b
-      → emit (drop i s) (b, Cursor.At at) ≡ emit (drop (i + 1) s) (set b at (get_or s i 0), Cursor.At (at + 1))
+      → emit (drop i s) (b, Some at) ≡ emit (drop (i + 1) s) (set b at (get_or s i 0), Some (at + 1))
   rest-go h b at l = rw (add-one i, drop-cons s i 0 h, emit-go (get_or s i 0) (drop (suc i) s) b at l)
 
-  pub rest-stop : i < length s → (b : List ℕ) (at : ℕ) → length b ≤ at → emit (drop i s) (b, Cursor.At at) ≡ (b, Cursor.Full)
+  pub rest-stop : i < length s → (b : List ℕ) (at : ℕ) → length b ≤ at → emit (drop i s) (b, Some at) ≡ (b, None)
   rest-stop h b at l = rw (drop-cons s i 0 h) (emit-stop (get_or s i 0) (drop (suc i) s) b at l)
 
 -- the same in hex

@@ -10,21 +10,21 @@ use lib.Dec.{leb}
 use lib.ListN.{length, set, take, drop, length-set, length-append, length-take, length-drop, take-append-drop, drop_of_length-le}
 use lib.Seq.{sets, sets-eq, take_all, length-take-le}
 use borrow.Author.Tests.{leb-true, leb-false}
-use Rattle.text.specs.declared.Cursor.{Cursor}
+use Rattle.std.specs.Prelude.{Option, Some, None}
 use Rattle.text.specs.Output.{Output, emit, filled_to}
 use Rattle.text.proofs.Emit.{emit-none, emit-append, kept, emit-go, emit-stop}
 
 -- ---- a text that fits: what was before it, the text, what was after it
 
-emit-sets : (t b : List ℕ) (at : ℕ) → at + length t ≤ length b → emit t (b, Cursor.At at) ≡ (sets b at t, Cursor.At (at + length t))
-emit-sets [] b at h = rw add-zero (emit-none (b, Cursor.At at))
+emit-sets : (t b : List ℕ) (at : ℕ) → at + length t ≤ length b → emit t (b, Some at) ≡ (sets b at t, Some (at + length t))
+emit-sets [] b at h = rw add-zero (emit-none (b, Some at))
 emit-sets (x ∷ t) b at h =
     emit-go x t b at (omega arith)
-    ∙ rw add-one (emit-sets t (set b at x) (suc at) (simp length-set (omega arith)) ∙ ap (λ (n : ℕ). (sets (set b at x) (suc at) t, Cursor.At n)) (omega arith))
+    ∙ rw add-one (emit-sets t (set b at x) (suc at) (simp length-set (omega arith)) ∙ ap (λ (n : ℕ). (sets (set b at x) (suc at) t, Some n)) (omega arith))
 
 pub emit-fits : (t b : List ℕ) (at : ℕ) → at + length t ≤ length b
-    → emit t (b, Cursor.At at) ≡ (take at b ++ t ++ drop (at + length t) b, Cursor.At (at + length t))
-emit-fits t b at h = emit-sets t b at h ∙ ap (λ (l : List ℕ). (l, Cursor.At (at + length t))) (sets-eq t b at h)
+    → emit t (b, Some at) ≡ (take at b ++ t ++ drop (at + length t) b, Some (at + length t))
+emit-fits t b at h = emit-sets t b at h ∙ ap (λ (l : List ℕ). (l, Some (at + length t))) (sets-eq t b at h)
 
 -- ---- one that does not: what was before it, and its beginning, as far as there is room
 
@@ -39,27 +39,27 @@ module _ (t b : List ℕ) (at : ℕ) (h : at ≤ length b) (l : length b < at + 
   unfolding begun room
   begun-length = simp (length-append, length-take) (omega arith)
 
-  emit-begun : emit (take room t) (b, Cursor.At at) ≡ (begun, Cursor.At (length b))
+  emit-begun : emit (take room t) (b, Some at) ≡ (begun, Some (length b))
   unfolding begun room
   emit-begun =
       let long : length (take (length b - at) t) ≡ length b - at = length-take-le (length b - at) t (omega arith) in
       let end : at + length (take (length b - at) t) ≡ length b = omega (arith, long) in
       emit-fits (take (length b - at) t) b at (omega (arith, long)) ∙ rw (end, drop_of_length-le b {i = length b} (omega arith), append-nil)
 
-  emit-rest : (u : List ℕ) → 0 < length u → emit u (begun, Cursor.At (length b)) ≡ (begun, Cursor.Full)
+  emit-rest : (u : List ℕ) → 0 < length u → emit u (begun, Some (length b)) ≡ (begun, None)
   emit-rest [] z = absurd (omega arith)
   emit-rest (x ∷ u) z = emit-stop x u begun (length b) (omega (arith, begun-length))
 
-  pub emit-short : emit t (b, Cursor.At at) ≡ (take at b ++ take (length b - at) t, Cursor.Full)
+  pub emit-short : emit t (b, Some at) ≡ (take at b ++ take (length b - at) t, None)
   unfolding begun room
   emit-short =
-      ap (λ (u : List ℕ). emit u (b, Cursor.At at)) (sym (take-append-drop room t)) ∙ emit-append (take room t) (drop room t) (b, Cursor.At at)
+      ap (λ (u : List ℕ). emit u (b, Some at)) (sym (take-append-drop room t)) ∙ emit-append (take room t) (drop room t) (b, Some at)
       ∙ ap (emit (drop room t)) emit-begun
       ∙ emit-rest (drop room t) (simp length-drop (omega arith))
 
 -- ---- from the buffer's start on: as much of the text as there is room for, the rest as it was, and how many bytes that are filled
 
-module _ (t b : List ℕ) {b' : List ℕ} {p : Cursor} (e : (b', p) ≡ emit t (b, Cursor.At 0)) where
+module _ (t b : List ℕ) {b' : List ℕ} {p : Option ℕ} (e : (b', p) ≡ emit t (b, Some 0)) where
   pub record Left : Type 0 where
     pub bytes : b' ≡ take (length b) t ++ drop (length t) b
     pub count : filled_to b' p ≡ min (length t) (length b)
@@ -68,20 +68,20 @@ module _ (t b : List ℕ) {b' : List ℕ} {p : Cursor} (e : (b', p) ≡ emit t (
   fits h =
       let start : 0 + length t ≡ length t = omega arith in
       let left = e ∙ emit-fits t b 0 (omega arith) in
-      let cursor : p ≡ Cursor.At (length t) = ap (λ (o : Output). o.1) left ∙ rw start in
+      let cursor : p ≡ Some (length t) = ap (λ (o : Output). o.1) left ∙ rw start in
       record {
         bytes = ap (λ (o : Output). o.0) left ∙ rw (start, take_all (length b) t h);
-        count = rw cursor (omega (arith, kept t (b, Cursor.At 0) e));
+        count = rw cursor (omega (arith, kept t (b, Some 0) e));
       }
 
   cut : length b < length t → Left
   cut h =
       let left = e ∙ emit-short t b 0 (omega arith) (omega arith) in
       let room : length b - 0 ≡ length b = omega arith in
-      let cursor : p ≡ Cursor.Full = ap (λ (o : Output). o.1) left in
+      let cursor : p ≡ None = ap (λ (o : Output). o.1) left in
       record {
         bytes = ap (λ (o : Output). o.0) left ∙ rw (room, drop_of_length-le b {i = length t} (omega arith), append-nil);
-        count = rw cursor (omega (arith, kept t (b, Cursor.At 0) e));
+        count = rw cursor (omega (arith, kept t (b, Some 0) e));
       }
 
   pub from_start : Left

@@ -1,6 +1,5 @@
 -- The definitions on examples, computed. Assumes nothing.
-use Rattle.std.specs.Prelude.{◌≡◌, refl, [], ◌∷◌}
-use Rattle.text.specs.declared.Cursor.{Cursor}
+use Rattle.std.specs.Prelude.{◌≡◌, Some, None, refl, [], ◌∷◌}
 use Rattle.text.specs.Text.{digits, decimal, hex, spaced, line, texts_n, texts}
 use Rattle.text.specs.Output.{byte_to, emit}
 use Rattle.octets.specs.Ascii.{ascii}
@@ -38,10 +37,10 @@ three-texts = refl
 
 -- ---- a buffer: a text that fits to the last byte, and one that does not
 
-fits : emit (1 ∷ 2 ∷ []) (9 ∷ 9 ∷ 9 ∷ [], Cursor.At 1) ≡ (9 ∷ 1 ∷ 2 ∷ [], Cursor.At 3)
+fits : emit (1 ∷ 2 ∷ []) (9 ∷ 9 ∷ 9 ∷ [], Some 1) ≡ (9 ∷ 1 ∷ 2 ∷ [], Some 3)
 unfolding emit byte_to
 fits = refl
 
-ends-early : emit (1 ∷ 2 ∷ 3 ∷ []) (9 ∷ 9 ∷ 9 ∷ [], Cursor.At 1) ≡ (9 ∷ 1 ∷ 2 ∷ [], Cursor.Full)
+ends-early : emit (1 ∷ 2 ∷ 3 ∷ []) (9 ∷ 9 ∷ 9 ∷ [], Some 1) ≡ (9 ∷ 1 ∷ 2 ∷ [], None)
 unfolding emit byte_to
 ends-early = refl

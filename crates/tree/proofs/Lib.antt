@@ -1,4 +1,3 @@
-pub mod OneAnswer
 pub mod Stands
 pub mod IsForm
 pub mod Meaning

@@ -1,7 +1,7 @@
 -- Trees that are forms and one that is none, and what they give, computed. Assumes nothing.
 use Rattle.std.specs.Prelude.{◌≡◌, refl, ℕ}
 use Rattle.std.proofs.Common.{inl, inr, arith}
-use Rattle.std.proofs.Math.Option.{some}
+use Rattle.std.specs.Prelude.{Some}
 use Rattle.expr.specs.declared.UsableAlgExpr.{UsableAlgExpr}
 use Rattle.expr.specs.Forms.{in64_bits}
 use Rattle.tree.specs.Stands.{num, ident, add, sub, mul}
@@ -15,7 +15,7 @@ four-times = addition-times (added (inr refl)) (inr refl)
 times-four : IsForm (mul (add ident (num 2)) (num 4)) (UsableAlgExpr.AddMult 2 4)
 times-four = addition-times (added (inr refl)) (inl refl)
 
-at_five : (worked_out (mul (num 4) (add ident (num 2))) 5 ≡ some 28) × (worked_out (mul (add ident (num 2)) (num 4)) 5 ≡ some 28)
+at_five : (worked_out (mul (num 4) (add ident (num 2))) 5 ≡ Some 28) × (worked_out (mul (add ident (num 2)) (num 4)) 5 ≡ Some 28)
 unfolding worked_out in64_bits
 at_five = (refl, refl)
 

@@ -4,17 +4,14 @@ use mathlib.Core.Bool.{Bool, true, false, cond}
 use mathlib.Core.List.{List}
 use mathlib.Core.Logic.{◌↔◌}
 use Prim.Native.Nat.{ℕ}
-use lib.Seq.{slice}
 use borrow.Author.Tests.{eqb-true, eqb-false, eq-eqb}
 use Rattle.answer.specs.declared.Group.{Group}
 use Rattle.answer.specs.Paper.{Answer, gives, refused}
-use Rattle.answer.proofs.OneToOne.{refusal-one}
 use Rattle.answer.proofs.Tests.{fails-is}
 use Rattle.octets.specs.Octets.{same}
 use Rattle.octets.proofs.Octets.{same-equal}
 use Rattle.types.specs.declared.BuiltinTypes.{BuiltinTypes}
-use Rattle.types.specs.declared.TypeNamed.{TypeNamed}
-use Rattle.types.specs.Types.{type_code, same_type, is_slice, type_of_code, type_name, type_name_of, type_from, type_named_says}
+use Rattle.types.specs.Types.{type_code, same_type, is_slice, type_of_code, type_name, type_from}
 
 -- ---- codes
 
@@ -48,15 +45,6 @@ pub slice_is : (t : BuiltinTypes) → (is_slice t ≡ false) ↔ (t ≡ BuiltinT
 slice_is t = (other-type t BuiltinTypes.ByteSlice, λ h. (fails-is (is_slice t)).1 (λ e. h (same-type t BuiltinTypes.ByteSlice e)))
 
 -- ---- names
-
--- the name is what its five bytes hold
-pub name-bytes : (t : BuiltinTypes) → slice 0 (type_name_of t).len (type_name_of t).bytes ≡ type_name t
-name-bytes BuiltinTypes.U8 = refl
-name-bytes BuiltinTypes.U16 = refl
-name-bytes BuiltinTypes.U32 = refl
-name-bytes BuiltinTypes.U64 = refl
-name-bytes BuiltinTypes.ByteSlice = refl
-name-bytes BuiltinTypes.Bool = refl
 
 -- a name read back is its type
 pub name-type : (t : BuiltinTypes) → type_from (type_name t) ≡ gives t
@@ -94,11 +82,3 @@ module _ (name : List ℕ) where
   type-name t =
       tried BuiltinTypes.U8 t (tried BuiltinTypes.U16 t (tried BuiltinTypes.U32 t (tried BuiltinTypes.U64 t
       (tried BuiltinTypes.ByteSlice t (tried BuiltinTypes.Bool t (λ g. cc))))))
-
--- ---- one answer: what the program's answer says tells answers apart
-
-pub type-named-one : (a b : TypeNamed) → type_named_says a ≡ type_named_says b → a ≡ b
-type-named-one (TypeNamed.Is t) (TypeNamed.Is u) e = cc
-type-named-one (TypeNamed.Is t) (TypeNamed.Refused s) e = cc
-type-named-one (TypeNamed.Refused r) (TypeNamed.Is u) e = cc
-type-named-one (TypeNamed.Refused r) (TypeNamed.Refused s) e = ap TypeNamed.Refused (refusal-one r s e)

@@ -1,13 +1,11 @@
 -- The built-in types: their codes on the sheet and their names. Assumes nothing.
-use Rattle.std.specs.Prelude.{Bool, cond, List, ◌++◌, ℕ, ◌-◌, eqb, length, replicate}
+use Rattle.std.specs.Prelude.{Bool, cond, List, ℕ, eqb}
 use Rattle.answer.specs.declared.Group.{Group}
-use Rattle.answer.specs.Paper.{Answer, gives, refused, refusal_says}
+use Rattle.answer.specs.Paper.{Answer, gives, refused}
 use Rattle.octets.specs.Octets.{same}
 use Rattle.octets.specs.Ascii.{ascii}
 use Rattle.types.specs.declared.BuiltinTypes.{BuiltinTypes}
 use Rattle.types.specs.declared.Arg.{Arg}
-use Rattle.types.specs.declared.TypeName.{TypeName}
-use Rattle.types.specs.declared.TypeNamed.{TypeNamed}
 
 -- the codes of repr and arg: 1 u8, 2 u16, 3 u32, 4 u64, 5 byte slice, 6 bool; 7 code, for arg alone
 abbrev pub type_code : BuiltinTypes → ℕ
@@ -50,10 +48,6 @@ type_name BuiltinTypes.U64 = ascii "u64"
 type_name BuiltinTypes.ByteSlice = ascii "&[u8]"
 type_name BuiltinTypes.Bool = ascii "bool"
 
--- in five bytes, zeros after the name
-abbrev pub type_name_of : BuiltinTypes → TypeName
-type_name_of t = let name = type_name t in record { bytes = name ++ replicate (5 - length name) 0; len = length name }
-
 -- the type with this name, byte for byte; any other name is type 1
 unfoldable pub type_from : List ℕ → Answer BuiltinTypes
 type_from name =
@@ -64,8 +58,3 @@ type_from name =
     (cond (same name (type_name BuiltinTypes.ByteSlice)) (gives BuiltinTypes.ByteSlice)
     (cond (same name (type_name BuiltinTypes.Bool)) (gives BuiltinTypes.Bool)
     (refused Group.Type 1 0))))))
-
--- what the program's answer says
-abbrev pub type_named_says : TypeNamed → Answer BuiltinTypes
-type_named_says (TypeNamed.Is t) = gives t
-type_named_says (TypeNamed.Refused r) = refusal_says r

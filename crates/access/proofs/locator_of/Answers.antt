@@ -6,6 +6,6 @@ pub returns-in-None : goal.returns-in-None
 returns-in-None c =
     locator-none _ _ c.requires.accepted c.unchecked_field.ensures c.in-None.is
 
-pub returns-in-Is : goal.returns-in-Is
-returns-in-Is c =
-    locator-at _ _ c.requires.accepted c.unchecked_field.ensures c.in-Is.is c.requires.header_value c.locator_for.ensures
+pub returns-in-Some : goal.returns-in-Some
+returns-in-Some c =
+    locator-at _ _ c.requires.accepted c.unchecked_field.ensures c.in-Some.is c.requires.header_value c.locator_for.ensures

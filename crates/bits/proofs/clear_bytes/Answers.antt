@@ -1,21 +1,15 @@
--- `clear_bytes` meets its contract: the run is zeroed where it lies as it has to, and nothing is done where it does not. Assumes nothing.
-use mathlib.Core.Path.{refl, sym, ◌∙◌}
-use Rattle.bits.proofs.Windows.{bytes-within}
+-- `clear_bytes` meets its contract: zeros spell 0. Assumes nothing.
+use Rattle.std.proofs.Common.{◌∙◌, ap, replicate, length-take, length-drop, lit<, arith, ℕ}
+use Rattle.std.proofs.lemmas.List.{length-replicate}
+use Rattle.octets.proofs.Octets.{zeros}
+use Rattle.bits.proofs.Windows.{stored, spelled-zeros}
 use Rattle.bits.proofs.clear_bytes.Goals as goal
 
-pub zero_out-requires : goal.zero_out-requires
-zero_out-requires c =
+pub returns : goal.returns
+returns c =
+    let a = c.args in
     record {
-      count_in_bounds = bytes-within _ _ _ _ (sym c.bytes_answer.ensures ∙ c.in-Done.is);
-      are_bytes = λ i. (c.slice_known-1.given i).fits;
+      answer = c.in_ok-bytes_answer.ensures.answer;
+      bytes = stored a.buf.now (replicate a.count.0 0) a.from.0 a.count.0 (λ i. grind arith) (λ i. rw (zeros a.count.0 i) (lit< tt)) (length-replicate _ _) c.in_ok-bytes_answer.ensures.inside (omega arith)
+          (c.fill.ensures.after (λ y e. e) ∙ ap (λ (n : ℕ). replicate n 0) (simp (length-take, length-drop) (omega (arith, c.in_ok-bytes_answer.ensures.inside)))) (spelled-zeros a.count.0);
     }
-
-pub returns-in-Done : goal.returns-in-Done
-returns-in-Done c =
-    record { answer = sym c.in-Done.is ∙ c.bytes_answer.ensures; bytes = c.zero_out.ensures }
-
-pub returns-in-Outside : goal.returns-in-Outside
-returns-in-Outside c = record { answer = sym c.in-Outside.is ∙ c.bytes_answer.ensures; bytes = refl }
-
-pub returns-in-Short : goal.returns-in-Short
-returns-in-Short c = record { answer = sym c.in-Short.is ∙ c.bytes_answer.ensures; bytes = refl }

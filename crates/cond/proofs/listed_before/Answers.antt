@@ -14,17 +14,11 @@ tested c =
     rw (c.lists.ensures, c.block-in-loop-j.ensures, c.name-wanted.ensures, c.block.ensures)
 
 pub loop-j-init : goal.loop-j-init
-loop-j-init c = (omega arith, where-none _)
+loop-j-init c = where-none _
 
 pub returns-then-lists : goal.returns-then-lists
 returns-then-lists c =
-    sym (ap is_some (where-at _ _ _ (omega arith) c.loop-j.invariant.1 (tested (goal.at.returns-then-lists c).After-lists ∙ c.if-lists.true)))
+    sym (ap is_some (where-at _ _ _ (omega arith) c.loop-j.invariant (tested (goal.at.returns-then-lists c).After-lists ∙ c.if-lists.true)))
 
 pub loop-j-preserved : goal.loop-j-preserved
-loop-j-preserved c =
-    (omega arith, where-more _ _ c.loop-j.invariant.1 (tested (goal.at.loop-j-preserved c).After-lists ∙ c.if-lists.false))
-
-pub returns : goal.returns
-returns c =
-    let all : c.loop-j.j ≡ c.args.i = omega arith in
-    sym (ap is_some (rw all at c.loop-j.invariant.1))
+loop-j-preserved c = where-more _ _ c.loop-j.invariant (tested (goal.at.loop-j-preserved c).After-lists ∙ c.if-lists.false)

@@ -2,8 +2,8 @@
 use mathlib.Core.Path.{◌≡◌}
 use mathlib.Core.Bool.{Bool, ◌&&◌}
 use mathlib.Core.List.{List}
-use mathlib.Core.Option.{none}
-use Prim.Native.Nat.{ℕ, ◌-◌, ◌≤◌}
+use Rattle.std.specs.Prelude.{None}
+use Prim.Native.Nat.{ℕ}
 use Rattle.octets.specs.Octets.{same}
 use Rattle.sheet.specs.Blocks.{block_at}
 use Rattle.header.specs.Names.{name_at}
@@ -16,7 +16,4 @@ abbrev pub listed : List ℕ → ℕ → ℕ → Bool
 listed s i j = is_entry (block_at s j) && same (name_at s j) (name_at s i)
 
 abbrev pub invariant-loop-j : goal.invariant-loop-j
-invariant-loop-j l = (l.j ≤ l.i) × (first_where (listed l.s l.i) l.j ≡ none)
-
-abbrev pub decreases-loop-j : goal.decreases-loop-j
-decreases-loop-j l = l.i - l.j
+invariant-loop-j l = first_where (listed l.s l.i) l.j ≡ None

@@ -2,8 +2,8 @@
 use mathlib.Core.Path.{◌≡◌}
 use mathlib.Core.Bool.{Bool}
 use mathlib.Core.List.{List}
-use mathlib.Core.Option.{none}
-use Prim.Native.Nat.{ℕ, ◌-◌, ◌≤◌}
+use Rattle.std.specs.Prelude.{None}
+use Prim.Native.Nat.{ℕ}
 use Rattle.bounds.specs.Bounds.{meets}
 use Rattle.cond.specs.Ranges.{clipped_in}
 use Rattle.answer.specs.Walk.{first_where}
@@ -14,7 +14,4 @@ abbrev pub meet : List ℕ → ℕ → ℕ → ℕ → Bool
 meet b most k j = meets (clipped_in b most j) (clipped_in b most k)
 
 abbrev pub invariant-loop-j : goal.invariant-loop-j
-invariant-loop-j l = (l.j ≤ l.k) × (first_where (meet l.b l.most l.k) l.j ≡ none)
-
-abbrev pub decreases-loop-j : goal.decreases-loop-j
-decreases-loop-j l = l.k - l.j
+invariant-loop-j l = first_where (meet l.b l.most l.k) l.j ≡ None

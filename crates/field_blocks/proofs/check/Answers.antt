@@ -1,26 +1,21 @@
--- Answers to the goals of `check`.
-use mathlib.Core.Path.{◌≡◌, sym, ap, ◌∙◌}
+-- Answers to the goals of `check`. It goes as far as there are F blocks.
+use mathlib.Core.Path.{sym, ap, ◌∙◌}
 use native.Mathlib.Omega.{arith}
 use Rattle.answer.specs.Paper.{first}
 use Rattle.answer.proofs.Chains.{first-none, first_more, first_stops, passed}
-use Rattle.sheet.specs.Blocks.{field_count}
+use Rattle.sheet.specs.declared.Counts.{Counts}
 use Rattle.field_blocks.proofs.check.Goals as goal
-use Rattle.field_blocks.proofs.check.Goals.{After-block_counts-n}
 
 pub loop-i-init : goal.loop-i-init
-loop-i-init c = (omega arith, first-none _)
+loop-i-init c = first-none _
 
--- it goes as far as there are F blocks
-all : (c : After-block_counts-n) → c.block_counts-n.result.fields ≡ field_count c.args.s.now
-all c = rw c.block_counts-n.ensures
-
-pub returns-in-Refused : goal.returns-in-Refused
-returns-in-Refused c =
-    first_stops _ c.loop-i.i _ (omega arith) c.loop-i.invariant.1 c.in-Refused.is (rw c.block.ensures at c.check_block-v.ensures) ∙ ap (first _) (all (goal.at.returns-in-Refused c).After-block_counts-n)
+pub returns-in_err-check_block : goal.returns-in_err-check_block
+returns-in_err-check_block c =
+    let all = ap (λ (n : Counts). n.fields) c.block_counts-i-end.ensures in
+    first_stops _ _ _ c.loop-i.i _ (omega (arith, all)) c.loop-i.invariant c.from_residual.ensures.1 (rw c.block.ensures at c.in_err-check_block.ensures)
 
 pub loop-i-preserved : goal.loop-i-preserved
-loop-i-preserved c =
-    (omega arith, first_more _ c.loop-i.i c.loop-i.invariant.1 (passed c.in_default.is (rw c.block.ensures at c.check_block-v.ensures)))
+loop-i-preserved c = first_more _ c.loop-i.i c.loop-i.invariant (passed c.in_ok-check_block.was (rw c.block.ensures at c.check_block.ensures))
 
 pub returns : goal.returns
-returns c = sym c.loop-i.invariant.1 ∙ ap (first _) (omega (arith, all (goal.at.returns c).After-block_counts-n))
+returns c = sym c.loop-i.invariant ∙ ap (first _) (omega (arith, ap (λ (n : Counts). n.fields) c.block_counts-i-end.ensures))

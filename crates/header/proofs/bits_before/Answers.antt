@@ -1,26 +1,19 @@
 -- Answers to the goals of `bits_before`.
-use mathlib.Core.Path.{◌≡◌, sym, ap, ◌∙◌}
+use mathlib.Core.Path.{sym}
 use native.Mathlib.Omega.{arith}
 use Rattle.layout.proofs.Indexed.{position-none, position-more}
-use Rattle.header.specs.Starts.{header_field_at, start_at}
+use Rattle.header.specs.Starts.{header_field_at}
 use Rattle.header.proofs.bits_before.Goals as goal
+
+pub loop-i-init : goal.loop-i-init
+loop-i-init c = omega (arith, position-none (header_field_at c.args.s.now))
 
 pub loop-i-preserved : goal.loop-i-preserved
 loop-i-preserved c =
-    let s = c.args.s.now in
     let bits = c.bits_in-sum.ensures in (
-      omega arith,
-      rw (c.loop-i.invariant.1, bits.0, c.block.ensures) (sym (position-more (header_field_at s) c.loop-i.i)),
+      rw (c.loop-i.invariant.0, bits.0, c.block.ensures) (sym (position-more (header_field_at c.args.s.now) c.loop-i.i)),
       omega (arith, bits.1),
     )
-
-pub returns : goal.returns
-returns c =
-    let all : c.loop-i.i ≡ c.args.n = omega arith in
-    c.loop-i.invariant.1 ∙ ap (start_at _) all
-
-pub loop-i-init : goal.loop-i-init
-loop-i-init c = (omega arith, omega (arith, position-none (header_field_at c.args.s.now)), omega arith)
 
 pub overflow_add-sum : goal.overflow_add-sum
 overflow_add-sum c = omega (arith, c.bits_in-sum.ensures.1)

@@ -1,17 +1,14 @@
 -- Answers to the goals of `named_among`.
-use mathlib.Core.Path.{◌≡◌, sym}
+use mathlib.Core.Path.{sym}
 use native.Mathlib.Omega.{arith}
 use Rattle.answer.proofs.Walk.{where-none, where-more, where-at}
 use Rattle.header.proofs.named_among.Goals as goal
 
 pub loop-i-init : goal.loop-i-init
-loop-i-init c = (omega arith, where-none _)
+loop-i-init c = where-none _
 
 pub returns-then-has_name : goal.returns-then-has_name
-returns-then-has_name c = sym (where-at _ _ _ (omega arith) c.loop-i.invariant.1 (cc))
+returns-then-has_name c = sym (where-at _ _ _ (omega arith) c.loop-i.invariant (cc))
 
 pub loop-i-preserved : goal.loop-i-preserved
-loop-i-preserved c = (omega arith, where-more _ _ c.loop-i.invariant.1 (cc))
-
-pub returns : goal.returns
-returns c = let all : c.loop-i.i ≡ c.args.n = omega arith in sym (rw all at c.loop-i.invariant.1)
+loop-i-preserved c = where-more _ _ c.loop-i.invariant (cc)

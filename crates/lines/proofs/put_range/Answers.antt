@@ -2,9 +2,9 @@
 use Rattle.text.proofs.Emit.{word, no_words}
 use Rattle.lines.proofs.put_range.Goals as goal
 
-pub returns-in-Are : goal.returns-in-Are
-returns-in-Are c =
-    let is = c.in-Are.is in
+pub returns-in-Some : goal.returns-in-Some
+returns-in-Some c =
+    let is = c.in-Some.is in
     rw is (word _ _ _ c.put_number-p.ensures (word _ _ _ c.put_number.ensures no_words))
 
 pub returns-in-None : goal.returns-in-None

@@ -5,7 +5,6 @@ use Rattle.text.specs.Output.{emit}
 use Rattle.answer.specs.declared.OnPaper.{OnPaper}
 use Rattle.answer.proofs.OneToOne.{on-paper-one}
 use Rattle.lines.specs.Lines.{refusal_line}
-use Rattle.lines.proofs.Words.{short}
 use Rattle.lines.proofs.put_refusal.Goals as goal
 
 pub returns : goal.returns
@@ -14,7 +13,7 @@ returns c =
     let a = c.args in
     let is = on-paper-one c.on_paper-paper.result _ c.on_paper-paper.ensures in
     ended _ _ _ c.put_bytes-p.ensures
-    (word _ _ _ (short _ _ c.group_word.ensures c.put_short-p.ensures)
+    (word _ _ _ (rw c.group_word.ensures at c.put_word-p.ensures)
     (word _ _ _ c.put_number-p.ensures
     (word _ _ _ c.put_number-p-2.ensures no_words)))
     c.put_byte.ensures

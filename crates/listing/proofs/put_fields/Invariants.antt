@@ -2,7 +2,7 @@
 -- which 64 widths of 32 bits do not overflow. Assumes nothing.
 use mathlib.Core.Path.{◌≡◌}
 use mathlib.Core.List.{List}
-use Prim.Native.Nat.{ℕ, ◌-◌, ◌*◌, ◌^◌, ◌≤◌}
+use Prim.Native.Nat.{ℕ, ◌*◌, ◌^◌, ◌≤◌}
 use Rattle.text.specs.Text.{texts}
 use Rattle.text.specs.Output.{Output, emit}
 use Rattle.header.specs.Starts.{start_at}
@@ -16,6 +16,3 @@ pub record Listed (s : List ℕ) (n start i : ℕ) (before now : Output) : Type 
 
 abbrev pub invariant-loop-i : goal.invariant-loop-i
 invariant-loop-i l = Listed l.s l.n l.start.0 l.i (l.initial.out, l.initial.p) (l.out, l.p)
-
-abbrev pub decreases-loop-i : goal.decreases-loop-i
-decreases-loop-i l = l.n - l.i

@@ -7,18 +7,14 @@ use Rattle.text.proofs.Emit.{then}
 use Rattle.header.specs.declared.Header.{Header}
 use Rattle.listing.specs.Listing.{listing}
 use Rattle.listing.proofs.Wrote.{header-wrote, fields-wrote, template-wrote, conds-wrote}
-use Rattle.listing.proofs.Told.{has-header, same-header, counts-small}
+use Rattle.listing.proofs.Told.{counts-small}
 use Rattle.listing.proofs.put_listing.Goals as goal
 use Rattle.listing.proofs.put_listing.Goals.{After-block_counts-n}
-
-pub returns-in_default : goal.returns-in_default
-returns-in_default c =
-    absurd (has-header c.args.s.now c.requires.accepted c.in_default.is c.new.ensures)
 
 -- the counts of an accepted sheet are small
 few : (c : After-block_counts-n) → (c.block_counts-n.result.fields ≤ 64) × (c.block_counts-n.result.lengths ≤ 3) × (c.block_counts-n.result.conds ≤ 32)
 few c =
-    counts-small c.args.s.now c.requires.accepted c.block_counts-n.ensures
+    counts-small c.args.d.now.sheet.now c.args.d.now.accepted c.block_counts-n.ensures
 
 pub put_fields-p-requires : goal.put_fields-p-requires
 put_fields-p-requires c = (few (goal.at.put_fields-p-requires c).After-block_counts-n).0
@@ -26,10 +22,10 @@ put_fields-p-requires c = (few (goal.at.put_fields-p-requires c).After-block_cou
 pub returns : goal.returns
 unfolding listing
 returns c =
-    let s = c.args.s.now in
-    let is = same-header s c.in-Is.is c.new.ensures in
+    let s = c.args.d.now.sheet.now in
+    let is = c.args.d.now.header_is in
     let counts = c.block_counts-n.ensures in
-    let template = c.part.ensures ∙ ap (λ (h : Header). slice 0 h.len.0 c.args.buf.now) is ∙ c.requires.buf_value in
+    let template = c.part.ensures ∙ ap (λ (h : Header). slice 0 h.len.0 c.args.buf.now) is ∙ c.requires in
     then _ _ _ (header-wrote s _ is c.put_header-p.ensures)
     (then _ _ _ (fields-wrote s _ counts c.put_fields-p.ensures)
     (then _ _ _ (template-wrote s _ template c.put_template-p.ensures)

@@ -8,6 +8,3 @@ use Rattle.listing.proofs.put_ranges.Given as goal
 
 abbrev pub invariant-loop-j : goal.invariant-loop-j
 invariant-loop-j l = emit (spaced (ranges_from l.s l.i l.j (l.n - l.j))) (l.out, l.p) ≡ emit (spaced (ranges_from l.s l.i 0 l.n)) (l.initial.out, l.initial.p)
-
-abbrev pub decreases-loop-j : goal.decreases-loop-j
-decreases-loop-j l = l.n - l.j

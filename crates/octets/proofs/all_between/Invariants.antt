@@ -1,12 +1,7 @@
--- `all_between` meets its contract. The loop's invariant: the range passes exactly where the bytes so far did and the rest does. Assumes nothing.
-use mathlib.Core.Path.{◌≡◌}
-use mathlib.Core.Bool.{◌&&◌}
-use Prim.Native.Nat.{◌-◌}
-use Rattle.octets.specs.Octets.{all_in, between}
+-- `all_between` meets its contract. The loop's invariant: the part passes exactly where the bytes so far did and the rest does. Assumes nothing.
+use Rattle.std.proofs.Common.{◌≡◌, ◌&&◌, drop}
+use Rattle.octets.specs.Octets.{all, between}
 use Rattle.octets.proofs.all_between.Given as goal
 
-abbrev pub invariant-loop-i : goal.invariant-loop-i
-invariant-loop-i l = all_in (between l.low l.high) l.s l.a l.end ≡ (l.ok && all_in (between l.low l.high) l.s l.i l.end)
-
-abbrev pub decreases-loop-i : goal.decreases-loop-i
-decreases-loop-i l = l.end - l.i
+abbrev pub invariant-loop-b : goal.invariant-loop-b
+invariant-loop-b l = all (between l.low l.high) l.b-items ≡ (l.ok && all (between l.low l.high) (drop l.b-index l.b-items))

@@ -1,10 +1,12 @@
--- `be16` meets its contract: two bytes, one after the other, are one number. Assumes nothing.
-use mathlib.Core.Path.{sym, ◌∙◌}
-use native.Mathlib.Omega.{arith}
-use Rattle.octets.proofs.Octets.{be-one, be-join}
+-- `be16` meets its contract: where not all 2 bytes are there, zeros stand for those that are not. Assumes nothing.
+use Rattle.std.proofs.Common.{◌∙◌}
+use Rattle.octets.proofs.Octets.{be-whole, be-padded, be_two}
 use Rattle.octets.proofs.be16.Goals as goal
 
-pub returns : goal.returns
-returns c =
-    let a = c.args in
-    omega (arith, be-join a.s.now a.at 1 1 c.part_from-t.ensures (c.byte_at.ensures ∙ sym (be-one _ 0)) (c.byte_at-2.ensures ∙ sym (be-one _ 1)))
+pub returns-in-Some : goal.returns-in-Some
+returns-in-Some c =
+    c.from_be_bytes.ensures ∙ be_two _ ∙ be-whole c.args.s.now c.args.at 2 c.part_from-t.ensures c.in-Some.ensures.cases.same
+
+pub returns-in-None : goal.returns-in-None
+returns-in-None c =
+    c.from_be_bytes-in-None.ensures ∙ be_two _ ∙ be-padded c.args.s.now _ c.args.at 2 c.part_from-t.ensures c.padded.ensures.1

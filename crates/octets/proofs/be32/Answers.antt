@@ -1,9 +1,12 @@
--- `be32` meets its contract: two numbers of 2 bytes, one after the other, are one number. Assumes nothing.
-use native.Mathlib.Omega.{arith}
-use Rattle.octets.proofs.Octets.{be-join}
+-- `be32` meets its contract: where not all 4 bytes are there, zeros stand for those that are not. Assumes nothing.
+use Rattle.std.proofs.Common.{◌∙◌}
+use Rattle.octets.proofs.Octets.{be-whole, be-padded, be_four}
 use Rattle.octets.proofs.be32.Goals as goal
 
-pub returns : goal.returns
-returns c =
-    let a = c.args in
-    omega (arith, be-join a.s.now a.at 2 2 c.part_from-t.ensures c.be16.ensures c.be16-2.ensures)
+pub returns-in-Some : goal.returns-in-Some
+returns-in-Some c =
+    c.from_be_bytes.ensures ∙ be_four _ ∙ be-whole c.args.s.now c.args.at 4 c.part_from-t.ensures c.in-Some.ensures.cases.same
+
+pub returns-in-None : goal.returns-in-None
+returns-in-None c =
+    c.from_be_bytes-in-None.ensures ∙ be_four _ ∙ be-padded c.args.s.now _ c.args.at 4 c.part_from-t.ensures c.padded.ensures.1

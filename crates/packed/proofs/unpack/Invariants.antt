@@ -1,9 +1,9 @@
--- `unpack` is safe and ends: each turn takes it further in the text, at most a gap past the longest, over a piece that keeps its length. Assumes nothing.
-use Rattle.std.proofs.Common.{◌≡◌, ◌-◌, ◌≤◌, length}
+-- `unpack` is safe and ends: each turn takes bytes off, and comes at most a gap and a run past the longest text. Assumes nothing.
+use Rattle.std.proofs.Common.{◌≤◌, length}
 use Rattle.packed.proofs.unpack.Given as goal
 
-abbrev pub invariant-loop-from : goal.invariant-loop-from
-invariant-loop-from l = (length l.piece ≡ length l.initial.piece) × (l.to ≤ 4295032831) × (l.left ≤ 255)
+abbrev pub invariant-loop-left : goal.invariant-loop-left
+invariant-loop-left l = l.to ≤ 4295033086
 
-abbrev pub decreases-loop-from : goal.decreases-loop-from
-decreases-loop-from l = length l.packed - l.from
+abbrev pub decreases-loop-left : goal.decreases-loop-left
+decreases-loop-left l = length l.left

@@ -1,6 +1,6 @@
--- `replay_operations` goes from operation to operation, each of at most 131,092 bytes.
-use Rattle.std.proofs.Common.{◌*◌, ◌≤◌}
+-- `replay_operations` leaves at most what it was given. Assumes nothing.
+use Rattle.std.proofs.Common.{◌≤◌, length}
 use Rattle.test_accesses.proofs.replay_operations.Given as goal
 
 abbrev pub invariant-loop : goal.invariant-loop
-invariant-loop l = l.at ≤ 131092 * l.counter
+invariant-loop l = length l.left ≤ length l.operations

@@ -3,7 +3,7 @@
 use mathlib.Core.Path.{◌≡◌}
 use mathlib.Core.Bool.{Bool}
 use mathlib.Core.List.{List}
-use Prim.Native.Nat.{ℕ, ◌-◌, ◌/◌, ◌≤◌}
+use Prim.Native.Nat.{ℕ, ◌/◌, ◌≤◌}
 use Rattle.answer.specs.Paper.{accepted, first}
 use Rattle.number.specs.Numbers.{max_bytes}
 use Rattle.sheet.specs.Blocks.{field_count}
@@ -14,7 +14,6 @@ use Rattle.header.proofs.Header.new.Given as goal
 
 pub record Inv (s : List ℕ) (n i bits : ℕ) (keys : List Bool) : Type 0 where
   pub turns : n ≡ field_count s
-  pub left : i ≤ n
   pub sum_is : bits ≡ start_at s i
   pub short : bits / 8 ≤ max_bytes
   pub ok : first (header_fault s) i ≡ accepted
@@ -22,6 +21,3 @@ pub record Inv (s : List ℕ) (n i bits : ℕ) (keys : List Bool) : Type 0 where
 
 abbrev pub invariant-loop-i : goal.invariant-loop-i
 invariant-loop-i l = Inv l.s l.n l.i l.bits.0 l.keys
-
-abbrev pub decreases-loop-i : goal.decreases-loop-i
-decreases-loop-i l = l.n - l.i

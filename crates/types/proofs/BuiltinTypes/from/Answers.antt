@@ -1,34 +1,19 @@
 -- `BuiltinTypes::from` meets its contract: the law of the name that is the same, and that of none. Assumes nothing.
-use mathlib.Core.Path.{sym, ◌∙◌}
-use Rattle.types.specs.declared.BuiltinTypes.{BuiltinTypes}
+use Rattle.std.proofs.Common.{sym, ◌∙◌, ap, arith, below_more}
+use Rattle.octets.specs.Octets.{same}
 use Rattle.types.proofs.CodesAndNames.{named, unnamed}
 use Rattle.types.proofs.BuiltinTypes.from.Goals as goal
 
+pub loop-t-init : goal.loop-t-init
+loop-t-init c k h = absurd (omega arith)
+
+pub returns-then-same_bytes : goal.returns-then-same_bytes
+returns-then-same_bytes c = sym (named _ _ (ap (same c.args.value.now) (sym c.to_string.ensures) ∙ sym c.same_bytes.ensures ∙ c.if-same_bytes.true))
+
+pub loop-t-preserved : goal.loop-t-preserved
+loop-t-preserved c = below_more _ _ c.loop-t.invariant (ap (same c.args.value.now) (sym c.to_string.ensures) ∙ sym c.same_bytes.ensures ∙ c.if-same_bytes.false)
+
 pub returns : goal.returns
 returns c =
-    sym
-    (unnamed _
-    (sym c.is_named.ensures ∙ c.if-is_named.false)
-    (sym c.is_named-2.ensures ∙ c.if-is_named-2.false)
-    (sym c.is_named-3.ensures ∙ c.if-is_named-3.false)
-    (sym c.is_named-4.ensures ∙ c.if-is_named-4.false)
-    (sym c.is_named-5.ensures ∙ c.if-is_named-5.false)
-    (sym c.is_named-6.ensures ∙ c.if-is_named-6.false))
-
-pub returns-then-is_named : goal.returns-then-is_named
-returns-then-is_named c = sym (named _ BuiltinTypes.U8 (sym c.is_named.ensures ∙ c.if-is_named.true))
-
-pub returns-then-is_named-2 : goal.returns-then-is_named-2
-returns-then-is_named-2 c = sym (named _ BuiltinTypes.U16 (sym c.is_named-2.ensures ∙ c.if-is_named-2.true))
-
-pub returns-then-is_named-3 : goal.returns-then-is_named-3
-returns-then-is_named-3 c = sym (named _ BuiltinTypes.U32 (sym c.is_named-3.ensures ∙ c.if-is_named-3.true))
-
-pub returns-then-is_named-4 : goal.returns-then-is_named-4
-returns-then-is_named-4 c = sym (named _ BuiltinTypes.U64 (sym c.is_named-4.ensures ∙ c.if-is_named-4.true))
-
-pub returns-then-is_named-5 : goal.returns-then-is_named-5
-returns-then-is_named-5 c = sym (named _ BuiltinTypes.ByteSlice (sym c.is_named-5.ensures ∙ c.if-is_named-5.true))
-
-pub returns-then-is_named-6 : goal.returns-then-is_named-6
-returns-then-is_named-6 c = sym (named _ BuiltinTypes.Bool (sym c.is_named-6.ensures ∙ c.if-is_named-6.true))
+    let all = c.loop-t.invariant in
+    sym (unnamed _ (all 0 (omega arith)) (all 1 (omega arith)) (all 2 (omega arith)) (all 3 (omega arith)) (all 4 (omega arith)) (all 5 (omega arith)))
