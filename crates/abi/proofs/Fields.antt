@@ -22,13 +22,11 @@ use Rattle.sheet.proofs.SheetIs.{in_order, laid_out}
 use Rattle.layout.specs.Access.{Value, write}
 use Rattle.cond.specs.Step.{range_numbers}
 use Rattle.cond.proofs.ConditionsAre.{conditions-are}
-use Rattle.header.specs.declared.Header.{Header}
 use Rattle.definition.specs.declared.CondEntry.{CondEntry}
-use Rattle.definition.specs.Definition.{definition_check, Accepted, defined_header}
+use Rattle.definition.specs.Definition.{Accepted}
 use Rattle.definition.specs.Unchecked.{entry_block, on_field, cond_entry}
 use Rattle.definition.proofs.Steps.{five-steps}
 use Rattle.header.specs.Names.{name_at, field_named}
-use Rattle.header.specs.Step.{header_of}
 use Rattle.locator.specs.declared.Locator.{Locator}
 use Rattle.locator.specs.Locator.{reach_at, write_check_at, read_at, apply_at}
 use Rattle.access.specs.Access.{sheet_reach, sheet_read, sheet_write_check, sheet_apply, locator_of, locator_check, locator_in}
@@ -38,19 +36,19 @@ use Rattle.abi.specs.Numbers.{locator_numbers, locator_from, value_numbers, span
 use Rattle.abi.proofs.Answers.{told_in, told_refused}
 use Rattle.abi.proofs.SixNumbers.{locator-back}
 
+-- an accepted sheet has at most 64 fields
+pub few-fields : (s : List ℕ) → Accepted s → field_count s ≤ 64
+few-fields s ok = (in_order s (five-steps s ok).sheet).most-fields
+
 -- the locator of a sheet's field names one of 64
 pub index-small : (s : List ℕ) (i : ℕ) {p : Locator} → locator_in s i ≡ gives p → p.index < 64
 index-small s i {p} e =
     let found = given (locator_check s i) e in
     let there = (locator-is s i).0 found.0 in
-    let small : i < 64 = omega (arith, there.1, (in_order s (five-steps s there.0).sheet).most-fields) in
+    let small : i < 64 = omega (arith, there.1, few-fields s there.0) in
     rw (← found.1) small
 
 -- ---- by the sheet
-
--- of a header that is given: it is the sheet's, which has at most 64 fields
-pub header-given : (s : List ℕ) {h : Header} → defined_header s ≡ gives h → (h ≡ header_of s) × (field_count s ≤ 64)
-header-given s e = let found = given (definition_check s) e in (sym found.1, (in_order s (five-steps s found.0).sheet).most-fields)
 
 module _ (s : List ℕ) (i : ℕ) {q : Result Locator Refusal} (said : says q ≡ locator_in s i) where
   -- where its bytes stand is told at its locator

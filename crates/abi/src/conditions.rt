@@ -2,10 +2,9 @@
 ghost use Rattle.std.specs.Prelude.{◌≡◌, ◌≤◌};
 ghost use Rattle.cond.specs.Step.{range_numbers};
 ghost use Rattle.definition.specs.Unchecked.{cond_entry};
-ghost use Rattle.definition.specs.Definition.{Accepted};
 ghost use Rattle.abi.specs.Numbers.{range_pair, entry_pairs, pairs_if, cond_rows};
 
-use definition::CondEntry;
+use definition::{CondEntry, Definition};
 
 // The first and the last number of range j of the entry in block i.
 fn range_pair(s: &[u8], i: usize, j: u8) -> [u64; 2]
@@ -30,24 +29,22 @@ fn entry_pairs(s: &[u8], e: CondEntry) -> [[u64; 2]; 25]
     pairs
 }
 
-// Entry k of an accepted sheet; zeros where there is none.
-fn condition(s: &[u8], k: usize) -> [[u64; 2]; 25]
-    requires { Accepted s.now }
-    ensures { result ≡ pairs_if s.now (cond_entry s.now k) }
+// Entry k of a definition; zeros where there is none.
+fn condition(d: &Definition<'_>, k: usize) -> [[u64; 2]; 25]
+    ensures { result ≡ pairs_if d.now.sheet.now (cond_entry d.now.sheet.now k) }
 {
-    match definition::unchecked_cond_entry(s, k) {
-        Some(e) => entry_pairs(s, e),
+    match definition::unchecked_cond_entry(d.sheet, k) {
+        Some(e) => entry_pairs(d.sheet, e),
         None => [[0; 2]; 25],
     }
 }
 
-// All entries of an accepted sheet.
-pub(crate) fn tell_conditions(s: &[u8], conditions: &mut [[[u64; 2]; 25]; 8])
-    requires { Accepted s.now }
-    ensures { conditions.new ≡ cond_rows s.now }
+// All entries of a definition.
+pub(crate) fn tell_conditions(d: &Definition<'_>, conditions: &mut [[[u64; 2]; 25]; 8])
+    ensures { conditions.new ≡ cond_rows d.now.sheet.now }
 {
     *conditions = [[[0; 2]; 25]; 8];
-    for k in 0..sheet::block_counts(s).conds {
-        conditions[k] = condition(s, k);
+    for k in 0..sheet::block_counts(d.sheet).conds {
+        conditions[k] = condition(d, k);
     }
 }

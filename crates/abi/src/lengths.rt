@@ -4,6 +4,7 @@ ghost use Rattle.answer.specs.Walk.{or_zero};
 ghost use Rattle.header.specs.Names.{name_at, field_named};
 ghost use Rattle.abi.specs.Numbers.{expr_numbers, form_numbers, slot_field_number, slot_numbers, length_rows, form_if, form_from, forward_by, back_by};
 
+use definition::Definition;
 use expr::UsableAlgExpr;
 use number::Bytes;
 use slots::LengthField;
@@ -61,13 +62,13 @@ fn slot_numbers(sheet: &[u8], slot: u8) -> [u64; 5]
     [form, first, second, field, most]
 }
 
-// Those of all three.
-pub(crate) fn tell_lengths(sheet: &[u8], lengths: &mut [[u64; 5]; 3])
-    ensures { lengths.new ≡ length_rows sheet.now }
+// Those of all three of a definition.
+pub(crate) fn tell_lengths(d: &Definition<'_>, lengths: &mut [[u64; 5]; 3])
+    ensures { lengths.new ≡ length_rows d.now.sheet.now }
 {
-    let header = slot_numbers(sheet, 0);
-    let payload = slot_numbers(sheet, 1);
-    let packet = slot_numbers(sheet, 2);
+    let header = slot_numbers(d.sheet, 0);
+    let payload = slot_numbers(d.sheet, 1);
+    let packet = slot_numbers(d.sheet, 2);
     *lengths = [header, payload, packet];
 }
 

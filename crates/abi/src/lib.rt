@@ -14,7 +14,7 @@ ghost use Rattle.abi.specs.Numbers.{version, header_numbers, template_after, loc
 ghost use Rattle.abi.specs.Listed.{ListedFront};
 
 use answer::Refusal;
-use header::Header;
+use definition::Definition;
 
 mod conditions;
 mod lengths;
@@ -35,19 +35,19 @@ pub extern "C" fn pktfmt_version() -> u64
 
 // ---- by the sheet
 
-// How many bytes and fields a header has, and how many conditions its sheet.
-fn header_numbers(sheet: &[u8], h: Header) -> [u64; 3]
-    ensures { result ≡ header_numbers sheet.now h }
+// How many bytes and fields the header of a definition has, and how many conditions there are.
+fn header_numbers(d: &Definition<'_>) -> [u64; 3]
+    ensures { result ≡ header_numbers d.now.sheet.now d.now.header }
 {
-    let conds = sheet::block_counts(sheet).conds;
-    [h.len.0, h.fields as u64, conds as u64]
+    let conds = sheet::block_counts(d.sheet).conds;
+    [d.header.len.0, d.header.fields as u64, conds as u64]
 }
 
-// Those of the header that was given, or the refusal.
-fn header_told(sheet: &[u8], checked: Result<Header, Refusal>) -> Result<[u64; 3], Refusal>
-    ensures { says result ≡ answer_in (header_numbers sheet.now) (says checked) }
+// Those of a sheet, or the refusal.
+fn header_told(sheet: &[u8]) -> Result<[u64; 3], Refusal>
+    ensures { says result ≡ answer_in (header_numbers sheet.now) (defined_header sheet.now) }
 {
-    Ok(header_numbers(sheet, checked?))
+    Ok(header_numbers(&Definition::new(sheet)?))
 }
 
 // Steps 1 to 5: the header.
@@ -55,11 +55,7 @@ fn header_told(sheet: &[u8], checked: Result<Header, Refusal>) -> Result<[u64; 3
 pub extern "C" fn pktfmt_check(sheet: &[u8], header: &mut [u64; 3], refusal: &mut [u64; 3]) -> bool
     ensures { Told (zeros 3) (header_numbers sheet.now) (defined_header sheet.now) header.new refusal.old refusal.new result }
 {
-    told::tell(
-        header,
-        refusal,
-        header_told(sheet, definition::checked_header(sheet)),
-    )
+    told::tell(header, refusal, header_told(sheet))
 }
 
 // The record of field i, or access 1.
@@ -99,12 +95,16 @@ pub extern "C" fn pktfmt_fields(
     ensures told { Told (zeros 3) (header_numbers sheet.now) (defined_header sheet.now) header.new refusal.old refusal.new result }
     ensures fields_after { fields.new ≡ told_or no_fields (λ _. field_rows sheet.now) (defined_header sheet.now) }
 {
-    let checked = definition::checked_header(sheet);
-    match checked {
-        Ok(h) => records::tell_fields(sheet, h, fields),
-        Err(_) => *fields = [[0; 14]; 64],
+    match Definition::new(sheet) {
+        Ok(d) => {
+            records::tell_fields(&d, fields);
+            told::tell(header, refusal, Ok(header_numbers(&d)))
+        }
+        Err(reason) => {
+            *fields = [[0; 14]; 64];
+            told::tell(header, refusal, Err(reason))
+        }
     }
-    told::tell(header, refusal, header_told(sheet, checked))
 }
 
 // The three length slots.
@@ -116,9 +116,9 @@ pub extern "C" fn pktfmt_lengths(
 ) -> bool
     ensures { Told no_lengths (λ _. length_rows sheet.now) (definition_check sheet.now) lengths.new refusal.old refusal.new result }
 {
-    match definition::check(sheet) {
-        Ok(()) => {
-            lengths::tell_lengths(sheet, lengths);
+    match Definition::new(sheet) {
+        Ok(d) => {
+            lengths::tell_lengths(&d, lengths);
             true
         }
         Err(reason) => {
@@ -137,9 +137,9 @@ pub extern "C" fn pktfmt_conditions(
 ) -> bool
     ensures { Told no_conds (λ _. cond_rows sheet.now) (definition_check sheet.now) conditions.new refusal.old refusal.new result }
 {
-    match definition::check(sheet) {
-        Ok(()) => {
-            conditions::tell_conditions(sheet, conditions);
+    match Definition::new(sheet) {
+        Ok(d) => {
+            conditions::tell_conditions(&d, conditions);
             true
         }
         Err(reason) => {

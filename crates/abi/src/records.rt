@@ -1,19 +1,17 @@
 // The records of fields, fourteen numbers each.
-ghost use Rattle.std.specs.Prelude.{◌≡◌, ◌≤◌, ◌<◌};
+ghost use Rattle.std.specs.Prelude.{◌≡◌, ◌<◌};
 ghost use Rattle.answer.specs.Paper.{says};
-ghost use Rattle.sheet.specs.Blocks.{field_count};
 ghost use Rattle.header.specs.Starts.{start_at};
-ghost use Rattle.header.specs.Step.{header_bytes, header_of};
 ghost use Rattle.access.specs.Access.{locator_of, locator_in};
 ghost use Rattle.abi.specs.Told.{answer_in};
 ghost use Rattle.abi.specs.Numbers.{default_count, default_begins, record_numbers, field_numbers, field_rows, index_named};
 
 use answer::Refusal;
 use bits::BitPos;
+use definition::Definition;
 use field::{DefaultVal, Field};
-use header::Header;
 use locator::Locator;
-use number::{Bits, Bytes};
+use number::Bits;
 
 // How many bytes a default states.
 fn default_count(default: DefaultVal) -> usize
@@ -79,30 +77,27 @@ pub(crate) fn record_by_index(s: &[u8], i: usize) -> Result<[u64; 14], Refusal>
     Ok(field_record(s, p))
 }
 
-// Of field i, by where it starts.
-fn record_at(s: &[u8], i: usize, header: Bytes, start: Bits) -> [u64; 14]
+// Of field i of a definition, by where it starts.
+fn record_at(d: &Definition<'_>, i: usize, start: Bits) -> [u64; 14]
     requires i_bound { i < 64 }
-    requires header_value { header.0 ≡ header_bytes s.now }
-    requires start_value { start.0 ≡ start_at s.now i }
-    ensures { result ≡ field_numbers s.now (locator_of s.now i) }
+    requires start_value { start.0 ≡ start_at d.now.sheet.now i }
+    ensures { result ≡ field_numbers d.now.sheet.now (locator_of d.now.sheet.now i) }
 {
-    let b = sheet::block(s, i);
+    let b = sheet::block(d.sheet, i);
     let f = field_blocks::resolved(b);
-    let p = access::locator_for(i, header, BitPos::new(start), f);
+    let p = access::locator_for(i, d.header.len, BitPos::new(start), f);
     record_numbers(p, f, blocks::name(b).len())
 }
 
-// Of all fields of a header.
-pub(crate) fn tell_fields(s: &[u8], h: Header, fields: &mut [[u64; 14]; 64])
-    requires h_value { h ≡ header_of s.now }
-    requires s_bound { field_count s.now ≤ 64 }
-    ensures { fields.new ≡ field_rows s.now }
+// Of all fields of a definition.
+pub(crate) fn tell_fields(d: &Definition<'_>, fields: &mut [[u64; 14]; 64])
+    ensures { fields.new ≡ field_rows d.now.sheet.now }
 {
     *fields = [[0; 14]; 64];
     let mut start = Bits(0);
-    for i in 0..h.fields {
-        fields[i] = record_at(s, i, h.len, start);
-        start = Bits(start.0 + field_blocks::bits_in(sheet::block(s, i)).0);
+    for i in 0..d.header.fields {
+        fields[i] = record_at(d, i, start);
+        start = Bits(start.0 + field_blocks::bits_in(sheet::block(d.sheet, i)).0);
     }
 }
 

@@ -12,8 +12,10 @@ use native.Mathlib.Omega.{arith}
 use lib.Dec.{leb, ltb}
 use lib.ListN.{length}
 use borrow.Author.Tests.{le-leb, lt-leb}
+use Rattle.std.specs.Option.{ok_or}
 use Rattle.std.specs.Result.{IsErrAnd}
 use Rattle.std.proofs.lemmas.Result.{err_from_is_err_and}
+use Rattle.answer.specs.declared.AccessFault.{AccessFault}
 use Rattle.answer.specs.declared.Group.{Group}
 use Rattle.answer.specs.declared.Refusal.{Refusal}
 use Rattle.answer.specs.Paper.{Answer, gives, refused, Check, accepted, refusal_says, refuse, ◌and_then◌, says}
@@ -43,10 +45,15 @@ use Rattle.access.proofs.Locators.{reach-same, read_same, write-check-same, appl
 -- ---- the locator of a field of an accepted sheet
 
 module _ (s : List ℕ) (i : ℕ) (ok : Accepted s) {n : Option (Field × BitPos)} (said : field_with_start_says n ≡ field_with_start s i) where
-  pub locator-none : n ≡ None → ◌≡◌ {A = Answer Locator} (refused Group.Access 1 i) (locator_in s i)
+  -- as `ok_or` refuses it
+  pub locator-none : {e : Refusal} → n ≡ None → ◌≡◌ {A = Result (Field × BitPos) Refusal} (Err e) (ok_or n (Refusal.Access AccessFault.NoSuchField i))
+      → ◌≡◌ {A = Answer Locator} (refusal_says e) (locator_in s i)
   unfolding locator_check
-  locator-none is = by_count (dec_lt i (field_count s))
+  locator-none {e} is told = ap refusal_says no-field ∙ by_count (dec_lt i (field_count s))
     where
+      no-field : e ≡ Refusal.Access AccessFault.NoSuchField i
+      no-field = cc
+
       by_count : Dec (i < field_count s) → ◌≡◌ {A = Answer Locator} (refused Group.Access 1 i) (locator_in s i)
       by_count (yes h) = let e = sym (ap field_with_start_says is) ∙ said ∙ field-given s i ok h in cc
       by_count (no h) = rw (ok, le-leb (field_count s) i (omega arith))

@@ -6,13 +6,12 @@ ghost use Rattle.std.specs.Prelude.{◌≡◌, true, false, length};
 ghost use Rattle.answer.specs.Paper.{says};
 ghost use Rattle.types.specs.Types.{is_slice};
 ghost use Rattle.layout.specs.Access.{number as a_number, bytes as some_bytes, write};
-ghost use Rattle.header.specs.Step.{header_bytes};
-ghost use Rattle.definition.specs.Definition.{Accepted};
 ghost use Rattle.locator.specs.Locator.{number_answer_says, part_of};
 ghost use Rattle.access.specs.Access.{sheet_reach, sheet_read, SheetWritten, default_or_zero, held_of, locator_for, locator_in};
 
 use answer::{AccessFault, Refusal};
 use bits::{BitPos, Run};
+use definition::Definition;
 use field::{DefaultVal, Field};
 use locator::{Held, Locator};
 use number::Bytes;
@@ -53,24 +52,20 @@ pub fn locator_for(i: usize, header: Bytes, start: BitPos, f: Field) -> Locator
     }
 }
 
-// The locator of field i of an accepted sheet, whose header has so many bytes; or access 1.
-fn locator_of(s: &[u8], i: usize, header: Bytes) -> Result<Locator, Refusal>
-    requires accepted { Accepted s.now }
-    requires header_value { header.0 ≡ header_bytes s.now }
-    ensures { says result ≡ locator_in s.now i }
+// The locator of field i of an accepted sheet, or access 1.
+fn locator_of(d: &Definition<'_>, i: usize) -> Result<Locator, Refusal>
+    ensures { says result ≡ locator_in d.now.sheet.now i }
 {
-    match definition::unchecked_field(s, i) {
-        Some((f, start)) => Ok(locator_for(i, header, start, f)),
-        None => Err(Refusal::Access(AccessFault::NoSuchField, i)),
-    }
+    let found = definition::unchecked_field(d.sheet, i);
+    let (f, start) = found.ok_or(Refusal::Access(AccessFault::NoSuchField, i))?;
+    Ok(locator_for(i, d.header.len, start, f))
 }
 
 // The locator of field i, the sheet's own refusal, or access 1.
 pub fn locate(s: &[u8], i: usize) -> Result<Locator, Refusal>
     ensures { says result ≡ locator_in s.now i }
 {
-    let header = definition::checked_header(s)?;
-    locator_of(s, i, header.len)
+    locator_of(&Definition::new(s)?, i)
 }
 
 // ---- reads

@@ -90,12 +90,7 @@ fn meet_in(b: &[u8], most: u64, j: u8, k: u8) -> bool
 fn meets_earlier(b: &[u8], most: u64, k: u8) -> bool
     ensures { result ≡ meets_earlier b.now most k }
 {
-    for j in 0..k {
-        if meet_in(b, most, j, k) {
-            return true;
-        }
-    }
-    false
+    (0..k).any(|j| meet_in(b, most, j, k))
 }
 
 fn range_fault(b: &[u8], most: u64, i: usize, k: u8) -> Result<(), Refusal>
@@ -139,12 +134,7 @@ fn listed_before(s: &[u8], i: usize) -> bool
     ensures { result ≡ listed_before s.now i }
 {
     let wanted = name(sheet::block(s, i));
-    for j in 0..i {
-        if lists(sheet::block(s, j), wanted) {
-            return true;
-        }
-    }
-    false
+    (0..i).any(|j| lists(sheet::block(s, j), wanted))
 }
 
 // Cond 2 to 7 of the entry in block i, which names this field.
@@ -171,10 +161,9 @@ fn entry_fault(s: &[u8], i: usize) -> Result<(), Refusal>
     if !is_entry(b) {
         return Ok(());
     }
-    match header::unchecked_field_named(s, name(b)) {
-        Some(k) => field_fault(s, i, field_blocks::resolved(sheet::block(s, k))),
-        None => Err(Refusal::Cond(CondFault::NoSuchField, i)),
-    }
+    let named = header::unchecked_field_named(s, name(b));
+    let k = named.ok_or(Refusal::Cond(CondFault::NoSuchField, i))?;
+    field_fault(s, i, field_blocks::resolved(sheet::block(s, k)))
 }
 
 // Step 5: the answer on the C blocks of a sheet.

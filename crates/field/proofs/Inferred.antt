@@ -12,22 +12,6 @@ use Rattle.field.specs.Fields.{infer_repr}
 -- ---- the type inferred from a width
 
 module _ (bits : ℕ) where
-  pub infer-u8 : bits ≤ 8 → infer_repr bits ≡ BuiltinTypes.U8
-  unfolding infer_repr
-  infer-u8 h = simp (le-leb bits 8 h)
-
-  pub infer-u16 : 8 < bits → bits ≤ 16 → infer_repr bits ≡ BuiltinTypes.U16
-  unfolding infer_repr
-  infer-u16 l h = simp (lt-leb bits 8 l, le-leb bits 16 h)
-
-  pub infer-u32 : 16 < bits → bits ≤ 32 → infer_repr bits ≡ BuiltinTypes.U32
-  unfolding infer_repr
-  infer-u32 l h = simp (lt-leb bits 8 (omega arith), lt-leb bits 16 l, le-leb bits 32 h)
-
-  pub infer-u64 : 32 < bits → bits ≤ 64 → infer_repr bits ≡ BuiltinTypes.U64
-  unfolding infer_repr
-  infer-u64 l h = simp (lt-leb bits 8 (omega arith), lt-leb bits 16 (omega arith), lt-leb bits 32 l, le-leb bits 64 h)
-
   pub infer-slice : 64 < bits → infer_repr bits ≡ BuiltinTypes.ByteSlice
   unfolding infer_repr
   infer-slice l = simp (lt-leb bits 8 (omega arith), lt-leb bits 16 (omega arith), lt-leb bits 32 (omega arith), lt-leb bits 64 l)

@@ -1,5 +1,6 @@
 // Fields: what a table says of one field, checked as the Rust's `Field::new` checks it, and the record of a field that passed.
-// A default's bytes stay where they are, in the block of the field: the record holds their span.
+// A default's bytes stay where they are, in the block of the field: the record holds their span, and not the bytes, so that it is a
+// value by itself.
 #![tactic(auto)]
 
 ghost use Rattle.std.specs.Prelude.{◌≡◌};
@@ -52,22 +53,17 @@ pub struct Field {
 
 // ---- what an absent item stands for
 
+#[tactic(auto, unfolding(crate::specs::Fields::infer_repr))]
 fn infer_repr(width: Bits) -> BuiltinTypes
     ensures { result ≡ infer_repr width.0 }
 {
-    if width.0 <= 8 {
-        return BuiltinTypes::U8;
+    match width.0 {
+        0..=8 => BuiltinTypes::U8,
+        9..=16 => BuiltinTypes::U16,
+        17..=32 => BuiltinTypes::U32,
+        33..=64 => BuiltinTypes::U64,
+        _ => BuiltinTypes::ByteSlice,
     }
-    if width.0 <= 16 {
-        return BuiltinTypes::U16;
-    }
-    if width.0 <= 32 {
-        return BuiltinTypes::U32;
-    }
-    if width.0 <= 64 {
-        return BuiltinTypes::U64;
-    }
-    BuiltinTypes::ByteSlice
 }
 
 // Of bytes none are stated, so that all are zero.
@@ -139,10 +135,7 @@ fn bad_number(width: Bits, d: DefaultVal) -> bool
     let DefaultVal::Num(n) = d else {
         return true;
     };
-    match number::max_value(width) {
-        Some(most) => most < n,
-        None => true,
-    }
+    number::max_value(width).is_none_or(|most| most < n)
 }
 
 // Field 7: bytes that are fixed.
@@ -193,19 +186,13 @@ impl Items {
     fn default_or_zero(self, repr: BuiltinTypes) -> DefaultVal
         ensures { result ≡ default_of repr self.default }
     {
-        match self.default {
-            Some((d, _)) => d,
-            None => infer_default_val(repr),
-        }
+        self.default.map_or(infer_default_val(repr), |(d, _)| d)
     }
 
     fn is_fixed(self) -> bool
         ensures { result ≡ fixed_of self.default }
     {
-        match self.default {
-            Some((_, fixed)) => fixed,
-            None => false,
-        }
+        self.default.is_some_and(|(_, fixed)| fixed)
     }
 
     // Field 4 to 7: what is stated as the default.

@@ -41,12 +41,7 @@ fn has_name(b: &[u8], wanted: &[u8]) -> bool
 fn named_among(s: &[u8], wanted: &[u8], n: usize) -> Option<usize>
     ensures { result ≡ named_among s.now wanted.now n }
 {
-    for i in 0..n {
-        if has_name(sheet::block(s, i), wanted) {
-            return Some(i);
-        }
-    }
-    None
+    (0..n).find(|i| has_name(sheet::block(s, *i), wanted))
 }
 
 // The field that a name means: the first that has it.

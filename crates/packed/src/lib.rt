@@ -1,14 +1,16 @@
-// What the programs that read stored files share: the tally of their answers, answers as the files have them, numbers of two bytes, and packed texts. A packed text is runs of bytes, each after
-// a gap. A run is 2 bytes for the gap, big-endian, which is how many zeros stand before it; 1 byte for its count; and as many bytes. A text is unpacked over
-// zeros, whole or in pieces.
+// What the programs that read stored files share: the tally of their answers, the status that they end with, answers as the files have them, numbers of two
+// bytes, and packed texts. A packed text is runs of bytes, each after a gap. A run is 2 bytes for the gap, big-endian, which is how many zeros stand before it;
+// 1 byte for its count; and as many bytes. A text is unpacked over zeros, whole or in pieces.
 #![tactic(auto)]
 
+mod ending;
 mod stored;
 mod tally;
 
 ghost use Rattle.std.specs.Prelude.{◌≡◌, ◌+◌, ◌^◌, ◌<◌, ◌≤◌, length};
 ghost use Rattle.octets.specs.Octets.{be};
 
+pub use ending::status;
 use octets::{be16, byte_at, part};
 pub use stored::{Stored, answer_in};
 pub use tally::Tally;

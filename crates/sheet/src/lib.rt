@@ -26,7 +26,8 @@ pub fn block_count(s: &[u8]) -> usize
     s.len() / blocks::SIZE
 }
 
-// Block i; an empty part past the last whole one.
+// Block i; an empty part past the last whole one. (Sheets and blocks are slices: every function answers on any bytes, so that a struct
+// of theirs would say no more than the slice. Walks count the blocks: a place is a block's index, and the definitions go by it.)
 pub fn block(s: &[u8], i: usize) -> &[u8]
     ensures { result.now ≡ block_at s.now i }
 {
@@ -73,12 +74,7 @@ fn gives_slot(b: &[u8], slot: u8) -> bool
 fn slot_among(s: &[u8], slot: u8, n: usize) -> Option<usize>
     ensures { result ≡ slot_block s.now slot n }
 {
-    for i in 0..n {
-        if gives_slot(block(s, i), slot) {
-            return Some(i);
-        }
-    }
-    None
+    (0..n).find(|i| gives_slot(block(s, *i), slot))
 }
 
 // The block that gives a slot, if one does.
@@ -109,7 +105,7 @@ fn slot_before(s: &[u8], i: usize) -> bool
     ensures { result ≡ slot_before s.now i }
 {
     let b = block(s, i);
-    (kind(b) == b'L') & slot_among(s, stated_slot(b), i).is_some()
+    kind(b) == b'L' && slot_among(s, stated_slot(b), i).is_some()
 }
 
 // Sheet 2 to 6 of block i, where so many blocks of each kind stand before it.

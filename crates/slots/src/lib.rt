@@ -15,7 +15,8 @@ pub enum LengthField {
     Expr(UsableAlgExpr),
 }
 
-// The same, and the block that gives it; 0 stands for none.
+// The same, and the block that gives it; 0 where none does. (Whoever has one takes that block's name, and only `held` decides whether it
+// is used: an `Option` would be taken apart there once more.)
 #[derive(Clone, Copy, Debug, PartialEq, Eq)]
 pub struct Slot {
     pub held: LengthField,
@@ -53,13 +54,11 @@ fn expr_in(b: &[u8]) -> Option<UsableAlgExpr>
 fn held_in(b: &[u8]) -> LengthField
     ensures { result ≡ held (expr_in b.now) }
 {
-    match expr_in(b) {
-        Some(e) => LengthField::Expr(e),
-        None => LengthField::Undefined,
-    }
+    expr_in(b).map_or(LengthField::Undefined, LengthField::Expr)
 }
 
-// What a slot holds, and the block that gives it.
+// What a slot holds, and the block that gives it. (A slot is asked for by its number, 0 to 2 in a sheet. No block of a sheet gives
+// another, and that is an answer too: a type of three cases would ask more of who calls.)
 pub fn slot_of(s: &[u8], slot: u8) -> Slot
     ensures { (result.held ≡ length_field s.now slot) × (result.at ≡ or_zero (block_of_slot s.now slot)) }
 {

@@ -30,6 +30,7 @@ pub fn fill<R: Read>(input: &mut R, buf: &mut [u8]) -> io::Result<usize>
     ensures taken { IsTaken (R.remaining input.old) (R.remaining input.new) result buf.new }
 {
     let mut n = 0;
+    // (No index counts here: a read brings as many bytes as it brings.)
     while n < buf.len() {
         let came = input.read(&mut buf[n..])?;
         if came == 0 {
@@ -52,7 +53,7 @@ pub fn read_to_end<R: Read>(input: &mut R, buf: &mut [u8]) -> io::Result<usize>
     Ok(n)
 }
 
-// The file of a name, for reading. A name that is no text is the name of no file.
+// The file of a name, for reading. A name that is no text is the name of no file, and is answered so: a `&str` would ask more of who calls.
 fn open<R: Files>(rt: &R, path: &[u8]) -> io::Result<R::File> {
     let path = str::from_utf8(path).map_err(|_| io::Error::from(ErrorKind::InvalidInput))?;
     File::open(rt, path)

@@ -9,7 +9,7 @@ use answer::Refusal;
 use locator::Locator;
 use octets::{be16, be64, byte_at, part};
 use packed::{Stored, Tally, answer_in, two};
-use std::alloc::{AllocError, Global};
+use std::alloc::AllocError;
 use std::process::ExitCode;
 
 // ---- an operation
@@ -178,7 +178,7 @@ fn replay_record<'a>(tally: &mut Tally, left: &'a [u8]) -> &'a [u8]
     replay_operations(tally, part(&sheet, 0, len), whole, operations, n)
 }
 
-// Record after record up to the end of the file, or a thousand.
+// Record after record up to the end of the file, or a thousand: what is over stays unread.
 fn replay_all(file: &[u8]) -> Tally {
     let mut tally = Tally::NONE;
     let mut left = file;
@@ -191,24 +191,15 @@ fn replay_all(file: &[u8]) -> Tally {
     tally
 }
 
-// Room for the file.
-fn large(alloc: Global) -> Result<Vec<u8>, AllocError> {
-    vec![in alloc; 0; 1048576]
-}
-
 fn main(rt: HostRuntime) -> Result<ExitCode, AllocError> {
-    let mut file = large(rt.alloc())?;
+    // room for the file
+    let mut file = vec![in rt.alloc(); 0; 1048576]?;
     let Ok(n) = streams::read_file(&rt, b"accesses", &mut file) else {
         return Ok(ExitCode::FAILURE);
     };
     let tally = replay_all(part(&file, 0, n));
     let mut out = [0u8; 128];
     let to = tally.put(&mut out, Some(0), b"");
-    match rt.write_all(part(&out, 0, text::filled(&out, to))) {
-        Ok(()) => Ok(ExitCode::SUCCESS),
-        Err(why) => {
-            let _ = eprintln!(rt; "test_accesses: cannot write standard output: {why}");
-            Ok(ExitCode::FAILURE)
-        }
-    }
+    let written = rt.write_all(part(&out, 0, text::filled(&out, to)));
+    Ok(packed::status(&rt, "test_accesses", written))
 }

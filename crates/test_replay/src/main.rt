@@ -8,7 +8,7 @@ use expr::UsableAlgExpr;
 use number::{Bits, Bytes};
 use octets::{be64, byte_at, part};
 use packed::{Tally, two};
-use std::alloc::{AllocError, Global};
+use std::alloc::AllocError;
 use std::ops::Bound;
 use std::process::ExitCode;
 use types::BuiltinTypes;
@@ -188,7 +188,7 @@ fn expected(q: &[u8]) -> Option<Answer> {
 
 // ---- the files
 
-// Sheet after sheet up to the end of the file, or a hundred thousand.
+// Sheet after sheet up to the end of the file, or a hundred thousand: what is over stays unread.
 fn replay_answers(file: &[u8]) -> Tally {
     let mut tally = Tally::NONE;
     let mut left = file;
@@ -214,13 +214,9 @@ fn replay_alone(file: &[u8]) -> Tally {
     tally
 }
 
-// Room for a file.
-fn large(alloc: Global) -> Result<Vec<u8>, AllocError> {
-    vec![in alloc; 0; 1048576]
-}
-
 fn main(rt: HostRuntime) -> Result<ExitCode, AllocError> {
-    let mut file = large(rt.alloc())?;
+    // room for a file
+    let mut file = vec![in rt.alloc(); 0; 1048576]?;
     let Ok(n) = streams::read_file(&rt, b"answers", &mut file) else {
         return Ok(ExitCode::FAILURE);
     };
@@ -232,11 +228,6 @@ fn main(rt: HostRuntime) -> Result<ExitCode, AllocError> {
     let mut out = [0u8; 256];
     let to = answers.put(&mut out, Some(0), b"answers: ");
     let to = alone.put(&mut out, to, b"alone: ");
-    match rt.write_all(part(&out, 0, text::filled(&out, to))) {
-        Ok(()) => Ok(ExitCode::SUCCESS),
-        Err(why) => {
-            let _ = eprintln!(rt; "test_replay: cannot write standard output: {why}");
-            Ok(ExitCode::FAILURE)
-        }
-    }
+    let written = rt.write_all(part(&out, 0, text::filled(&out, to)));
+    Ok(packed::status(&rt, "test_replay", written))
 }

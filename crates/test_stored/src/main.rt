@@ -9,17 +9,12 @@ use facts::Facts;
 use header::Header;
 use octets::{byte_at, part};
 use packed::{Stored, Tally, answer_in, two};
-use std::alloc::{AllocError, Global};
+use std::alloc::AllocError;
 use std::process::ExitCode;
 
 // ---- the template of an accepted sheet, built in a buffer that holds the filling and nothing else
 
 const FILLING: u8 = 165;
-
-// Room for the longest header, and 16 bytes more.
-fn large_filling(alloc: Global) -> Result<Vec<u8>, AllocError> {
-    vec![in alloc; FILLING; 4194319]
-}
 
 fn is_filling(buf: &[u8]) -> bool {
     buf.iter().all(|b| *b == FILLING)
@@ -174,25 +169,17 @@ fn replay_all(file: &[u8], buf: &mut [u8]) -> Tally {
     tally
 }
 
-// Room for the file, and to spare.
-fn large(alloc: Global) -> Result<Vec<u8>, AllocError> {
-    vec![in alloc; 0; 2097152]
-}
-
 fn main(rt: HostRuntime) -> Result<ExitCode, AllocError> {
-    let mut file = large(rt.alloc())?;
+    // room for the file, and to spare
+    let mut file = vec![in rt.alloc(); 0; 2097152]?;
     let Ok(n) = streams::read_file(&rt, b"sheets", &mut file) else {
         return Ok(ExitCode::FAILURE);
     };
-    let mut buf = large_filling(rt.alloc())?;
+    // room for the longest header, and 16 bytes more
+    let mut buf = vec![in rt.alloc(); FILLING; 4194319]?;
     let tally = replay_all(part(&file, 0, n), &mut buf);
     let mut out = [0u8; 128];
     let to = tally.put(&mut out, Some(0), b"");
-    match rt.write_all(part(&out, 0, text::filled(&out, to))) {
-        Ok(()) => Ok(ExitCode::SUCCESS),
-        Err(why) => {
-            let _ = eprintln!(rt; "test_stored: cannot write standard output: {why}");
-            Ok(ExitCode::FAILURE)
-        }
-    }
+    let written = rt.write_all(part(&out, 0, text::filled(&out, to)));
+    Ok(packed::status(&rt, "test_stored", written))
 }

@@ -1,7 +1,8 @@
 // Text in a lent buffer: each function writes a text from a cursor on and answers the cursor after it, the index of the next byte. Where the buffer ends first,
 // it holds the beginning of the text, and there is no cursor any more: the buffer is full, and nothing is written there. So a writer never fails, and its calls
 // need no tests between them. (Buffer and cursor are no struct: it would hold the buffer by `&mut`, and every writer would have to promise besides its text that
-// it still holds the same buffer.)
+// it still holds the same buffer. Nor is it `Display` or `fmt::Write`: what does not fit is dropped here, and what stands in the buffer
+// afterwards is one equation.)
 #![tactic(auto)]
 
 ghost use Rattle.std.specs.Prelude.{◌≡◌, [], ◌∷◌, ◌≤◌, ◌<◌, length, drop};

@@ -62,8 +62,8 @@ fn beside_x(p: Node, q: Node) -> Option<u64>
     None
 }
 
-// Added: the number. (`addend` and `factor`, `sum` and `product` are pairs in the rules too, two phrases each; one function
-// for both would take the operator as a number.)
+// Added: the number. (`addend` and `factor`, `sum` and `product` are pairs in the rules too, two phrases each, and each has its
+// definition.)
 fn addend(nodes: &[Node; 32], n: Node) -> Option<u64>
     ensures { result ≡ addend_of (table_of nodes.now) n }
 {

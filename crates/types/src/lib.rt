@@ -62,6 +62,7 @@ impl BuiltinTypes {
         self == BuiltinTypes::ByteSlice
     }
 
+    // The name, as the Rust's function of this name.
     pub fn to_string(self) -> &'static [u8]
         ensures { result.now ≡ type_name self }
     {

@@ -1,24 +1,17 @@
--- Answers to the goals of `listed_before`.
-use mathlib.Core.Path.{◌≡◌, sym, ap, ◌∙◌}
-use native.Mathlib.Omega.{arith}
-use Rattle.answer.specs.Walk.{is_some}
-use Rattle.answer.proofs.Walk.{where-none, where-more, where-at}
+-- `listed_before` meets its contract: `any` finds an entry that lists the field, or there is none. Assumes nothing.
+use Rattle.std.proofs.Common.{rules, tests, arith, ◌≡◌, Bool, ℕ, ◌&&◌, refl, true, false}
+use Rattle.std.proofs.lemmas.Iterator.{cases_from_any, YieldsList-from_range}
+use Rattle.octets.specs.Octets.{same}
+use Rattle.sheet.specs.Blocks.{block_at}
+use Rattle.header.specs.Names.{name_at}
+use Rattle.cond.specs.Step.{is_entry}
+use Rattle.cond.proofs.AnyOf.{any-where}
 use Rattle.cond.proofs.listed_before.Goals as goal
-use Rattle.cond.proofs.listed_before.Invariants.{listed}
-use Rattle.cond.proofs.listed_before.Goals.{After-lists}
 
--- what the test says of block j
-tested : (c : After-lists) → let a = c.args in
-    listed a.s.now a.i c.loop-j.j ≡ c.lists.result
-tested c =
-    rw (c.lists.ensures, c.block-in-loop-j.ensures, c.name-wanted.ensures, c.block.ensures)
-
-pub loop-j-init : goal.loop-j-init
-loop-j-init c = where-none _
-
-pub returns-then-lists : goal.returns-then-lists
-returns-then-lists c =
-    sym (ap is_some (where-at _ _ _ (omega arith) c.loop-j.invariant (tested (goal.at.returns-then-lists c).After-lists ∙ c.if-lists.true)))
-
-pub loop-j-preserved : goal.loop-j-preserved
-loop-j-preserved c = where-more _ _ c.loop-j.invariant (tested (goal.at.loop-j-preserved c).After-lists ∙ c.if-lists.false)
+pub returns : goal.returns
+returns c =
+    let a = c.args in
+    let listed : ℕ → Bool = λ j. is_entry (block_at a.s.now j) && same (name_at a.s.now j) (name_at a.s.now a.i) in
+    any-where listed a.i _
+    (cases_from_any _ _ _ (λ j. listed j ≡ true) (λ j. listed j ≡ false) c.any.ensures.ran (YieldsList-from_range 0 a.i a.i refl (omega arith))
+    (λ j b k. search (rules, tests)) (λ j b k. search (rules, tests)))

@@ -1,16 +1,15 @@
--- Answers to the goals of `meets_earlier`.
-use mathlib.Core.Path.{sym, ap, ◌∙◌}
-use native.Mathlib.Omega.{arith}
-use Rattle.answer.specs.Walk.{is_some}
-use Rattle.answer.proofs.Walk.{where-none, where-more, where-at}
+-- `meets_earlier` meets its contract: `any` finds an earlier range that meets this one, or there is none. Assumes nothing.
+use Rattle.std.proofs.Common.{rules, tests, arith, ◌≡◌, Bool, ℕ, refl, true, false}
+use Rattle.std.proofs.lemmas.Iterator.{cases_from_any, YieldsList-from_range}
+use Rattle.bounds.specs.Bounds.{meets}
+use Rattle.cond.specs.Ranges.{clipped_in}
+use Rattle.cond.proofs.AnyOf.{any-where}
 use Rattle.cond.proofs.meets_earlier.Goals as goal
 
-pub loop-j-init : goal.loop-j-init
-loop-j-init c = where-none _
-
-pub returns-then-meet_in : goal.returns-then-meet_in
-returns-then-meet_in c =
-    sym (ap is_some (where-at _ _ _ (omega arith) c.loop-j.invariant (sym c.meet_in.ensures ∙ c.if-meet_in.true)))
-
-pub loop-j-preserved : goal.loop-j-preserved
-loop-j-preserved c = where-more _ _ c.loop-j.invariant (sym c.meet_in.ensures ∙ c.if-meet_in.false)
+pub returns : goal.returns
+returns c =
+    let a = c.args in
+    let meet : ℕ → Bool = λ j. meets (clipped_in a.b.now a.most j) (clipped_in a.b.now a.most a.k) in
+    any-where meet a.k _
+    (cases_from_any _ _ _ (λ j. meet j ≡ true) (λ j. meet j ≡ false) c.any.ensures.ran (YieldsList-from_range 0 a.k a.k refl (omega arith))
+    (λ j b k. search (rules, tests)) (λ j b k. search (rules, tests)))

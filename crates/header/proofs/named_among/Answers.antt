@@ -1,14 +1,15 @@
 -- Answers to the goals of `named_among`.
-use mathlib.Core.Path.{sym}
-use native.Mathlib.Omega.{arith}
-use Rattle.answer.proofs.Walk.{where-none, where-more, where-at}
+use Rattle.std.proofs.Common.{◌≡◌, rules, ℕ, Bool, true, false}
+use Rattle.std.proofs.lemmas.Iterator.{first_from_Range}
+use Rattle.octets.specs.Octets.{same}
+use Rattle.sheet.proofs.Found.{found}
+use Rattle.header.specs.Names.{name_at}
 use Rattle.header.proofs.named_among.Goals as goal
 
-pub loop-i-init : goal.loop-i-init
-loop-i-init c = where-none _
-
-pub returns-then-has_name : goal.returns-then-has_name
-returns-then-has_name c = sym (where-at _ _ _ (omega arith) c.loop-i.invariant (cc))
-
-pub loop-i-preserved : goal.loop-i-preserved
-loop-i-preserved c = where-more _ _ c.loop-i.invariant (cc)
+pub returns : goal.returns
+returns c =
+    let has : ℕ → Bool = λ i. same (name_at c.args.s.now i) c.args.wanted.now in
+    found has c.args.n c.find.result
+    (first_from_Range _ _ _ _ (λ i. has i ≡ true) (λ i. has i ≡ false) c.find.ensures.ran
+    (λ x q k. search rules)
+    (λ x q k. (search rules, search rules)))

@@ -21,7 +21,8 @@ loop-j-preserved c =
     let s = c.args.s.now in
     let e = c.args.e in
     let j = c.loop-j.j in
-    rw (c.loop-j.invariant, c.range_pair.ensures, ← (range-row s e j)) (rows_more (zeros 2) 25 (cond_pair s e) (j + 1) (omega (arith, c.loop-j-test.true, c.requires)))
+    let told = c.range_pair.ensures ∙ sym (range-row s e j) in
+    rw (c.loop-j.invariant, told) (rows_more (zeros 2) 25 (cond_pair s e) (j + 1) (omega (arith, c.loop-j-test.true, c.requires)))
 
 pub returns : goal.returns
 unfolding entry_pairs

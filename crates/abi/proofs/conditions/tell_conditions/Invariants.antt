@@ -12,4 +12,4 @@ abbrev pub entry : List ℕ → ℕ → List (List ℕ)
 entry s k = pairs_if s (cond_entry s k)
 
 abbrev pub invariant-loop-k : goal.invariant-loop-k
-invariant-loop-k l = l.conditions ≡ rows no_pairs 8 (entry l.s) l.k
+invariant-loop-k l = l.conditions ≡ rows no_pairs 8 (entry l.d.sheet.now) l.k
