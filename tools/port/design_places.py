@@ -69,7 +69,7 @@ for n, t in SRC.items():
     for m in re.finditer(r"^( *)for (\w+) in 0\.\.([\w.():&]+?) \{\n(.*?)^\1\}\n", t, re.S | re.M):
         if re.search(r"\[" + m[2] + r"\b[^\]]*\]", m[4]):
             note("3 loops", n, t, m.start(), f"for {m[2]} over indices of a slice")
-        elif re.search(r"block\([^()]*\b" + m[2] + r"\)", m[4]):
+        elif re.search(r"(?<!_)block\([^()]*\b" + m[2] + r"\)", m[4]):
             note("3 loops", n, t, m.start(), f"for {m[2]} over the blocks of a sheet, by index")
 
 # 4: comparison, order, copying, conversion and printing by hand
