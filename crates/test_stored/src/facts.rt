@@ -10,7 +10,7 @@ use slots::LengthField;
 
 // What is left of the facts behind those that were right so far; none once one was not.
 #[derive(Drop)]
-pub struct Facts<'a> {
+pub(crate) struct Facts<'a> {
     left: Option<&'a [u8]>,
 }
 
@@ -21,12 +21,12 @@ fn counted(facts: &[u8]) -> Option<(&[u8], &[u8])> {
 }
 
 impl<'a> Facts<'a> {
-    pub fn new(facts: &'a [u8]) -> Facts<'a> {
+    pub(crate) fn new(facts: &'a [u8]) -> Facts<'a> {
         Facts { left: Some(facts) }
     }
 
     // Whether all were right, with nothing left of them.
-    pub fn are_read(&self) -> bool {
+    pub(crate) fn are_read(&self) -> bool {
         self.left.is_some_and(|left| left.is_empty())
     }
 
@@ -35,7 +35,7 @@ impl<'a> Facts<'a> {
     }
 
     // With one thing more that was right or not.
-    pub fn and(&mut self, right: bool) {
+    pub(crate) fn and(&mut self, right: bool) {
         if !right {
             self.wrong();
         }
@@ -174,7 +174,7 @@ impl<'a> Facts<'a> {
     }
 
     // First all names, then all fields, all trees, all starts, and for each name the field that it means.
-    pub fn of_sheet(&mut self, s: &[u8]) {
+    pub(crate) fn of_sheet(&mut self, s: &[u8]) {
         let n = sheet::block_count(s);
         self.counts(s);
         for i in 0..n {
@@ -197,7 +197,7 @@ impl<'a> Facts<'a> {
     // ---- what one holds that passed step 3, 4 or 5 too
 
     // The header's length. Its template, which is packed, is not compared here but handed out.
-    pub fn of_header(&mut self, header: Header) -> &'a [u8] {
+    pub(crate) fn of_header(&mut self, header: Header) -> &'a [u8] {
         self.four(header.len.0);
         match self.left.and_then(counted) {
             Some((packed, left)) => {
@@ -231,7 +231,7 @@ impl<'a> Facts<'a> {
         }
     }
 
-    pub fn of_lengths(&mut self, s: &[u8]) {
+    pub(crate) fn of_lengths(&mut self, s: &[u8]) {
         for k in 0..3 {
             let slot = definition::unchecked_length_slot(s, k);
             match slot.held {
@@ -268,7 +268,7 @@ impl<'a> Facts<'a> {
         }
     }
 
-    pub fn of_conds(&mut self, s: &[u8]) {
+    pub(crate) fn of_conds(&mut self, s: &[u8]) {
         for k in 0..sheet::block_count(s) {
             self.cond(s, k);
         }
