@@ -1,6 +1,12 @@
 -- What reading comes to. Which bytes a call of `read` brings no contract can say of the system's inputs; of a reader that says what it has left, it can. Assumes nothing.
-use Rattle.std.specs.Prelude.{◌≡◌, ◌≤◌, ◌<◌, List, length, take, ℕ, Option, IfSome, Result, Ok, Err}
+use Rattle.std.specs.Prelude.{◌≡◌, ◌≤◌, ◌<◌, List, length, take, ℕ, zero, suc, Option, None, Some, IfSome, Result, Ok, Err}
 use Rattle.std.specs.Io.KnownBytes.{Consumes, IsAtEnd}
+
+-- what one call of read came to, by its answer: an error is that error, 0 is the end of the input, else so many bytes came
+abbrev pub heard_of : {E : Type 0} → Result ℕ E → Result (Option ℕ) E
+heard_of (Ok zero) = Ok None
+heard_of (Ok (suc k)) = Ok (Some (suc k))
+heard_of (Err e) = Err e
 
 -- so many bytes stand at the front of the buffer; of a failure nothing is said
 abbrev pub InFront : {E : Type 0} → Result ℕ E → List ℕ → Type 0

@@ -3,12 +3,23 @@
 
 ghost use Rattle.std.specs.Prelude.{◌≡◌, length, OnOk};
 ghost use Rattle.std.specs.Io.KnownBytes.{IsAtEnd};
-ghost use Rattle.streams.specs.Streams.{InFront, IsTaken, IsReadOut};
+ghost use Rattle.streams.specs.Streams.{heard_of, InFront, IsTaken, IsReadOut};
 
 use std::fs::File;
 use std::io::{ErrorKind, Read};
 use std::rt::Files;
 use std::{io, str};
+
+// What one call of `read` came to, by its answer: so many bytes, or none where the input has ended; or the error.
+fn hear(got: io::Result<usize>) -> io::Result<Option<usize>>
+    ensures { result ≡ heard_of got }
+{
+    match got {
+        Ok(0) => Ok(None),
+        Ok(n) => Ok(Some(n)),
+        Err(e) => Err(e),
+    }
+}
 
 // Reads what is left of the input and drops it: whether it came to the end. (No input takes 2^64 reads.)
 fn drop_rest<R: Read>(input: &mut R) -> io::Result<()>
@@ -16,7 +27,7 @@ fn drop_rest<R: Read>(input: &mut R) -> io::Result<()>
 {
     let mut rest = [0; 65536];
     for _ in 0..u64::MAX {
-        if input.read(&mut rest)? == 0 {
+        if hear(input.read(&mut rest))?.is_none() {
             return Ok(());
         }
     }
@@ -32,10 +43,9 @@ pub fn fill<R: Read>(input: &mut R, buf: &mut [u8]) -> io::Result<usize>
     let mut n = 0;
     // (No index counts here: a read brings as many bytes as it brings.)
     while n < buf.len() {
-        let came = input.read(&mut buf[n..])?;
-        if came == 0 {
+        let Some(came) = hear(input.read(&mut buf[n..]))? else {
             return Ok(n);
-        }
+        };
         n += came;
     }
     Ok(n)
