@@ -104,11 +104,18 @@ pub fn resolved(b: &[u8]) -> Field
     items_in(b).resolved()
 }
 
-// How its field is held, as `resolved` has it.
+// How its field is held, as `resolved` has it: by the bits and the stated repr. Nothing else of the block is read.
 pub fn repr_of(b: &[u8]) -> BuiltinTypes
     ensures { result ≡ (resolved_in b.now).repr }
 {
-    items_in(b).repr_or_inferred()
+    let held = Items {
+        width: bits_in(b),
+        repr: repr_in(b),
+        arg: None,
+        default: None,
+        generate: None,
+    };
+    held.repr_or_inferred()
 }
 
 // Field 1 to 7 of an F block; a refusal has the place given.
