@@ -8,5 +8,5 @@ returns c =
     let a = c.args in
     record {
       answer = c.in_ok-bytes_answer.ensures.answer;
-      bytes = stored a.buf.now a.bytes.now a.from.0 _ (λ i. grind arith) (λ i. (c.type_inv.bytes i).fits) refl c.in_ok-bytes_answer.ensures.inside (omega arith) c.copy_from_slice.ensures.after refl;
+      bytes = stored a.buf.now a.bytes.now a.from.0 _ (λ i. grind arith) (λ i. (c.type_inv.bytes i).fits) refl c.in_ok-bytes_answer.ensures.inside (omega arith) c.copy_in.ensures refl;
     }
