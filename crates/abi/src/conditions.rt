@@ -29,7 +29,8 @@ fn entry_pairs(s: &[u8], e: CondEntry) -> [[u64; 2]; 25]
     pairs
 }
 
-// Entry k of a definition; zeros where there is none.
+// Entry k of a definition; zeros where there is none. (Called, so that its pairs do not lie on the stack while the sheet is checked.)
+#[inline(never)]
 fn condition(d: &Definition<'_>, k: usize) -> [[u64; 2]; 25]
     ensures { result ≡ pairs_if d.now.sheet.now (cond_entry d.now.sheet.now k) }
 {

@@ -43,19 +43,15 @@ fn header_numbers(d: &Definition<'_>) -> [u64; 3]
     [d.header.len.0, d.header.fields as u64, conds as u64]
 }
 
-// Those of a sheet, or the refusal.
-fn header_told(sheet: &[u8]) -> Result<[u64; 3], Refusal>
-    ensures { says result ≡ answer_in (header_numbers sheet.now) (defined_header sheet.now) }
-{
-    Ok(header_numbers(&Definition::new(sheet)?))
-}
-
 // Steps 1 to 5: the header.
 #[unsafe(no_mangle)]
 pub extern "C" fn pktfmt_check(sheet: &[u8], header: &mut [u64; 3], refusal: &mut [u64; 3]) -> bool
     ensures { Told (zeros 3) (header_numbers sheet.now) (defined_header sheet.now) header.new refusal.old refusal.new result }
 {
-    told::tell(header, refusal, header_told(sheet))
+    match Definition::new(sheet) {
+        Ok(d) => told::tell(header, refusal, Ok(header_numbers(&d))),
+        Err(reason) => told::tell(header, refusal, Err(reason)),
+    }
 }
 
 // The record of field i, or access 1.

@@ -83,13 +83,6 @@ pub(crate) fn locator_from(numbers: &[u64; 6]) -> Locator
 // What the boundary's functions at a locator do, where it is not done at once; and for those by the sheet. Apart from them, so that what is done at once is compiled
 // into them, and nothing of this is.
 
-// The number that is held at a locator, or access 1 to 3.
-fn value_at(p: Locator, buf: &[u8]) -> Result<[u64; 1], Refusal>
-    ensures { says result ≡ answer_in value_numbers (read_at p buf.now false) }
-{
-    Ok([p.read_number(buf)?])
-}
-
 // The number that is held there, or access 1 to 3.
 pub(crate) fn read_any(
     at: &[u64; 6],
@@ -99,7 +92,10 @@ pub(crate) fn read_any(
 ) -> bool
     ensures { Told (zeros 1) value_numbers (read_at (locator_from at.now) buf.now false) value.new refusal.old refusal.new result }
 {
-    super::told::tell(value, refusal, value_at(locator_from(at), buf))
+    match locator_from(at).read_number(buf) {
+        Ok(v) => super::told::tell(value, refusal, Ok([v])),
+        Err(reason) => super::told::tell(value, refusal, Err(reason)),
+    }
 }
 
 // Writes a number there, and changes no other bit; a refusal changes nothing.

@@ -27,7 +27,8 @@ pub(crate) fn tell_verdict(refusal: &mut [u64; 3], v: Result<(), Refusal>) -> bo
     }
 }
 
-// An answer in so many numbers, or zeros and the refusal.
+// An answer in so many numbers, or zeros and the refusal. (Compiled into each caller: a call would hand the answer over through memory.)
+#[inline(always)]
 pub(crate) fn tell<const N: usize>(
     out: &mut [u64; N],
     refusal: &mut [u64; 3],
