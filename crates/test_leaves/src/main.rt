@@ -40,7 +40,7 @@ fn ranges() -> bool {
 fn passes(check: u16) -> bool {
     let example = [0x00u8, 0x01, 0xf2, 0x03, 0xf4, 0xf5, 0xf6, 0xf7];
     let mut b = [0u8; blocks::SIZE];
-    b[..8].copy_from_slice(&example);
+    let _ = bits::write_bytes(&mut b, Bytes(8), Bytes(0), &example);
     b[blocks::SIZE - 2] = (check / 256) as u8;
     b[blocks::SIZE - 1] = (check % 256) as u8;
     blocks::check::check_holds(&b)

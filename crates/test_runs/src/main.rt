@@ -41,20 +41,25 @@ fn bit_of(b: &[u8], k: u64) -> u64 {
     }
 }
 
-// What bit k should be after v is written to the run.
+// What bit k should be after v is written to the run, which ends below 2^64. (Without a branch for each end of the run, since all bits of all runs come here.)
 fn wanted(before: &[u8], run: Run, v: u64, k: u64) -> u64 {
-    match k.checked_sub(run.s) {
-        Some(at) if at < run.w => {
-            let below = run.w - 1 - at;
-            if below < 64 { (v >> below) % 2 } else { 0 }
-        }
-        _ => bit_of(before, k),
+    let kept = bit_of(before, k);
+    let at = k.wrapping_sub(run.s);
+    if at < run.w {
+        let below = run.w - 1 - at;
+        if below < 64 { (v >> below) % 2 } else { 0 }
+    } else {
+        kept
     }
 }
 
-// Whether `after` is `before` with v in the run: each of 128 bits.
+// Whether `after` is `before` with v in the run: each of 128 bits. (All are looked at, so that no branch is made for each.)
 fn is_written(before: &[u8], after: &[u8], run: Run, v: u64) -> bool {
-    (0..128).all(|k| bit_of(after, k) == wanted(before, run, v, k))
+    let mut ok = true;
+    for k in 0..128 {
+        ok &= bit_of(after, k) == wanted(before, run, v, k);
+    }
+    ok
 }
 
 // What a read answers of a run in the first h bytes.
