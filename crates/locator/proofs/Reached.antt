@@ -192,9 +192,9 @@ module _ (p : Locator) (b : List ℕ) where
       ap (λ (x : Option ℕ). cond (leb 8 (length b)) x None) (seen-told p.index r ∙ ap seen_of (number-told p b free {r = r} refl))
 
   -- where no number is reached, none is seen
-  pub not_seen : holds_no_number p ≡ true → None ≡ seen_at p b
+  pub not_seen : (reach_at p (length b) false ≡ accepted → ⊥) → None ≡ seen_at p b
   unfolding read_at
-  not_seen none = of (leb 8 (length b)) (reach_at p (length b) false) (no_number p (length b) none)
+  not_seen none = of (leb 8 (length b)) (reach_at p (length b) false) none
     where
       read : Value
       read = run_value b false (first_bit p) (locator_width p)
