@@ -3,17 +3,15 @@
 #![tactic(auto)]
 
 ghost use Rattle.std.specs.Prelude.{◌≡◌, true, false, length};
-ghost use Rattle.answer.specs.Paper.{says};
 ghost use Rattle.layout.specs.Access.{number as a_number, bytes as some_bytes, write};
 ghost use Rattle.locator.specs.Locator.{reach_at, write_check_at, read_at, apply_at};
 ghost use Rattle.definition.specs.Definition.{definition_check, defined_header};
 ghost use Rattle.template.specs.Template.{template_check};
 ghost use Rattle.access.specs.Access.{locator_in, locator_of, sheet_reach, sheet_read, sheet_write_check, sheet_apply};
-ghost use Rattle.abi.specs.Told.{zeros, Answered, told_or, Told, answer_in, Found};
+ghost use Rattle.abi.specs.Told.{zeros, Answered, told_or, Told, Found};
 ghost use Rattle.abi.specs.Numbers.{version, header_numbers, template_after, locator_from, field_numbers, no_fields, field_rows, index_named, value_numbers, span_numbers, no_lengths, length_rows, no_conds, cond_rows, forward_by, back_by};
 ghost use Rattle.abi.specs.Listed.{ListedFront};
 
-use answer::Refusal;
 use definition::Definition;
 
 mod conditions;
